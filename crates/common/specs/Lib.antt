@@ -1,0 +1,3 @@
+pub mod Errors
+pub mod Formats
+pub mod Orders

@@ -1,0 +1,1 @@
+//! The DWARF format: definitions and their theorems.

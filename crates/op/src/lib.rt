@@ -1,0 +1,3 @@
+//! Operations of a DWARF expression.
+
+pub mod operation;
