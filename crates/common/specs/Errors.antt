@@ -4,9 +4,32 @@ use Prim.Native.Nat.{ℕ}
 use lib.Chars.{codes}
 use Rattle.common.specs.declared.error.Error.{Error}
 use Rattle.common.specs.declared.error.Error.the-variants.{
-  ValueTooLarge, UnsupportedWordSize, InvalidAddress, InvalidReference, UnsupportedExpressionForwardReference, UnsupportedCfiExpressionReference,
-  OffsetOutOfBounds, LengthOutOfBounds, NoRoom, TooManyReferences, TooManyUnits, NoUnit, BadEntry, AlreadyPlaced, AtUnitStart, NotPlaced, NotPending,
-  StillPending, BookFull, DraftState, BadTarget, BranchOpen, NoExpression, InUse, TooDeep}
+  ValueTooLarge,
+  UnsupportedWordSize,
+  InvalidAddress,
+  InvalidReference,
+  UnsupportedExpressionForwardReference,
+  UnsupportedCfiExpressionReference,
+  OffsetOutOfBounds,
+  LengthOutOfBounds,
+  NoRoom,
+  TooManyReferences,
+  TooManyUnits,
+  NoUnit,
+  BadEntry,
+  AlreadyPlaced,
+  AtUnitStart,
+  NotPlaced,
+  NotPending,
+  StillPending,
+  BookFull,
+  DraftState,
+  BadTarget,
+  BranchOpen,
+  NoExpression,
+  InUse,
+  TooDeep,
+}
 
 -- the number by which a refusal is known
 abbrev pub numberOf : Error → ℕ

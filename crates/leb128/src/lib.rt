@@ -28,7 +28,10 @@ impl Leb128 {
             bytes[len] = byte;
             len += 1;
             if rest == 0 {
-                return Leb128 { bytes, len: len as u8 };
+                return Leb128 {
+                    bytes,
+                    len: len as u8,
+                };
             }
         }
     }
@@ -49,7 +52,10 @@ impl Leb128 {
             bytes[len] = byte;
             len += 1;
             if done {
-                return Leb128 { bytes, len: len as u8 };
+                return Leb128 {
+                    bytes,
+                    len: len as u8,
+                };
             }
         }
     }
