@@ -1,0 +1,3 @@
+pub mod Replaced
+pub mod Lending
+pub mod Spread

@@ -1,0 +1,4 @@
+//! The sinks over lent tables.
+
+pub mod buffer;
+pub mod words;
