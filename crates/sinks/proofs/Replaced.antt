@@ -100,3 +100,7 @@ take-own m t =
     ⊎-elim (λ h. ap (λ j. take j t) (length-take-le m t (omega arith)))
     (λ h. let e : take m t ≡ t = take-all m t h in take-all (length (take m t)) t (omega (arith, ap length e)) ∙ sym e)
     (cases-lt m (length t))
+
+-- a write to a part of a table keeps the table's length
+pub mid-length : (t bs ys : List ℕ) (at k : ℕ) → ys ≡ bs → k ≡ length bs → at + length bs ≤ length t → length (putMid at k t ys) ≡ length t
+mid-length t bs ys at k e f h = ap length (mid-is t bs ys at k e f) ∙ put-length t bs at h
