@@ -1,5 +1,6 @@
 -- The numbers and names of the refusals.
 use mathlib.Core.List.{List}
+use mathlib.Core.Path.{_≡_}
 use Prim.Native.Nat.{ℕ}
 use lib.Chars.{codes}
 use Rattle.common.specs.declared.error.Error.{Error}
@@ -59,30 +60,30 @@ numberOf NoExpression = 23
 numberOf InUse = 24
 numberOf TooDeep = 25
 
--- the text by which a refusal is printed
-abbrev pub nameOf : Error → List ℕ
-nameOf ValueTooLarge = codes "ValueTooLarge"
-nameOf (UnsupportedWordSize size) = codes "UnsupportedWordSize"
-nameOf InvalidAddress = codes "InvalidAddress"
-nameOf InvalidReference = codes "InvalidReference"
-nameOf UnsupportedExpressionForwardReference = codes "UnsupportedExpressionForwardReference"
-nameOf UnsupportedCfiExpressionReference = codes "UnsupportedCfiExpressionReference"
-nameOf OffsetOutOfBounds = codes "OffsetOutOfBounds"
-nameOf LengthOutOfBounds = codes "LengthOutOfBounds"
-nameOf NoRoom = codes "NoRoom"
-nameOf TooManyReferences = codes "TooManyReferences"
-nameOf TooManyUnits = codes "TooManyUnits"
-nameOf NoUnit = codes "NoUnit"
-nameOf BadEntry = codes "BadEntry"
-nameOf AlreadyPlaced = codes "AlreadyPlaced"
-nameOf AtUnitStart = codes "AtUnitStart"
-nameOf NotPlaced = codes "NotPlaced"
-nameOf NotPending = codes "NotPending"
-nameOf StillPending = codes "StillPending"
-nameOf BookFull = codes "BookFull"
-nameOf DraftState = codes "DraftState"
-nameOf BadTarget = codes "BadTarget"
-nameOf BranchOpen = codes "BranchOpen"
-nameOf NoExpression = codes "NoExpression"
-nameOf InUse = codes "InUse"
-nameOf TooDeep = codes "TooDeep"
+-- a text is the name by which a refusal is printed
+abbrev pub Named : Error → List ℕ → Type 0
+Named ValueTooLarge text = text ≡ codes "ValueTooLarge"
+Named (UnsupportedWordSize size) text = text ≡ codes "UnsupportedWordSize"
+Named InvalidAddress text = text ≡ codes "InvalidAddress"
+Named InvalidReference text = text ≡ codes "InvalidReference"
+Named UnsupportedExpressionForwardReference text = text ≡ codes "UnsupportedExpressionForwardReference"
+Named UnsupportedCfiExpressionReference text = text ≡ codes "UnsupportedCfiExpressionReference"
+Named OffsetOutOfBounds text = text ≡ codes "OffsetOutOfBounds"
+Named LengthOutOfBounds text = text ≡ codes "LengthOutOfBounds"
+Named NoRoom text = text ≡ codes "NoRoom"
+Named TooManyReferences text = text ≡ codes "TooManyReferences"
+Named TooManyUnits text = text ≡ codes "TooManyUnits"
+Named NoUnit text = text ≡ codes "NoUnit"
+Named BadEntry text = text ≡ codes "BadEntry"
+Named AlreadyPlaced text = text ≡ codes "AlreadyPlaced"
+Named AtUnitStart text = text ≡ codes "AtUnitStart"
+Named NotPlaced text = text ≡ codes "NotPlaced"
+Named NotPending text = text ≡ codes "NotPending"
+Named StillPending text = text ≡ codes "StillPending"
+Named BookFull text = text ≡ codes "BookFull"
+Named DraftState text = text ≡ codes "DraftState"
+Named BadTarget text = text ≡ codes "BadTarget"
+Named BranchOpen text = text ≡ codes "BranchOpen"
+Named NoExpression text = text ≡ codes "NoExpression"
+Named InUse text = text ≡ codes "InUse"
+Named TooDeep text = text ≡ codes "TooDeep"

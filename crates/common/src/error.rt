@@ -1,7 +1,7 @@
 //! Refusals.
 
 ghost use mathlib.Core.Path.{_≡_};
-ghost use Rattle.common.specs.Errors.{numberOf, nameOf};
+ghost use Rattle.common.specs.Errors.{numberOf, Named};
 
 /// Why a call was refused. `docs/RULES.md` says which call refuses when.
 #[derive(Clone, Copy, PartialEq, Eq, Debug)]
@@ -94,7 +94,7 @@ impl Error {
 
     /// The refusal's name.
     pub fn name(self) -> &'static str
-        ensures { λ r. ⌜ now r ≡ nameOf self ⌝ }
+        ensures { λ r. ⌜ Named self (now r) ⌝ }
     {
         match self {
             Error::ValueTooLarge => "ValueTooLarge",

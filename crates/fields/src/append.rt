@@ -96,16 +96,14 @@ pub fn write_sdata<W: Writer>(w: &mut W, val: i64, size: u8) -> Result<(), Error
 pub fn write_uleb128<W: Writer>(w: &mut W, val: u64) -> Result<(), Error>
     ensures { λ r. ⌜ Appends (Ok (uleb val)) (W·Writer .means (now (w .entry))) (W·Writer .memory (now (w .entry))) r (W·Writer .means (now (w .exit))) (W·Writer .memory (now (w .exit))) ⌝ }
 {
-    let leb = Leb128::unsigned(val);
-    w.write(leb.bytes())
+    w.write(Leb128::unsigned(val).bytes())
 }
 
 /// Write a signed LEB128 number.
 pub fn write_sleb128<W: Writer>(w: &mut W, val: i64) -> Result<(), Error>
     ensures { λ r. ⌜ Appends (Ok (sleb val)) (W·Writer .means (now (w .entry))) (W·Writer .memory (now (w .entry))) r (W·Writer .means (now (w .exit))) (W·Writer .memory (now (w .exit))) ⌝ }
 {
-    let leb = Leb128::signed(val);
-    w.write(leb.bytes())
+    w.write(Leb128::signed(val).bytes())
 }
 
 /// Where an initial length stands that is to be written once it is known.

@@ -65,32 +65,28 @@ pub fn write_u8<W: Writer>(w: &mut W, val: u8) -> Result<(), Error>
 pub fn write_u16<W: Writer>(w: &mut W, val: u16) -> Result<(), Error>
     ensures { λ r. ⌜ Appends (Ok (fixedBytes (W·Writer .means (now (w .entry)) .big) 2 val)) (W·Writer .means (now (w .entry))) (W·Writer .memory (now (w .entry))) r (W·Writer .means (now (w .exit))) (W·Writer .memory (now (w .exit))) ⌝ }
 {
-    let bytes = bytes_u16(w.endian(), val);
-    w.write(&bytes)
+    w.write(&bytes_u16(w.endian(), val))
 }
 
 /// Write a `u32`.
 pub fn write_u32<W: Writer>(w: &mut W, val: u32) -> Result<(), Error>
     ensures { λ r. ⌜ Appends (Ok (fixedBytes (W·Writer .means (now (w .entry)) .big) 4 val)) (W·Writer .means (now (w .entry))) (W·Writer .memory (now (w .entry))) r (W·Writer .means (now (w .exit))) (W·Writer .memory (now (w .exit))) ⌝ }
 {
-    let bytes = bytes_u32(w.endian(), val);
-    w.write(&bytes)
+    w.write(&bytes_u32(w.endian(), val))
 }
 
 /// Write a `u64`.
 pub fn write_u64<W: Writer>(w: &mut W, val: u64) -> Result<(), Error>
     ensures { λ r. ⌜ Appends (Ok (fixedBytes (W·Writer .means (now (w .entry)) .big) 8 val)) (W·Writer .means (now (w .entry))) (W·Writer .memory (now (w .entry))) r (W·Writer .means (now (w .exit))) (W·Writer .memory (now (w .exit))) ⌝ }
 {
-    let bytes = bytes_u64(w.endian(), val);
-    w.write(&bytes)
+    w.write(&bytes_u64(w.endian(), val))
 }
 
 /// Write a `u128`.
 pub fn write_u128<W: Writer>(w: &mut W, val: u128) -> Result<(), Error>
     ensures { λ r. ⌜ Appends (Ok (fixedBytes (W·Writer .means (now (w .entry)) .big) 16 val)) (W·Writer .means (now (w .entry))) (W·Writer .memory (now (w .entry))) r (W·Writer .means (now (w .exit))) (W·Writer .memory (now (w .exit))) ⌝ }
 {
-    let bytes = bytes_u128(w.endian(), val);
-    w.write(&bytes)
+    w.write(&bytes_u128(w.endian(), val))
 }
 
 /// Write a `u8` at an offset.
@@ -104,30 +100,26 @@ pub fn write_u8_at<W: Writer>(w: &mut W, offset: usize, val: u8) -> Result<(), E
 pub fn write_u16_at<W: Writer>(w: &mut W, offset: usize, val: u16) -> Result<(), Error>
     ensures { λ r. ⌜ Patches offset (Ok (fixedBytes (W·Writer .means (now (w .entry)) .big) 2 val)) (W·Writer .means (now (w .entry))) (W·Writer .memory (now (w .entry))) r (W·Writer .means (now (w .exit))) (W·Writer .memory (now (w .exit))) ⌝ }
 {
-    let bytes = bytes_u16(w.endian(), val);
-    w.write_at(offset, &bytes)
+    w.write_at(offset, &bytes_u16(w.endian(), val))
 }
 
 /// Write a `u32` at an offset.
 pub fn write_u32_at<W: Writer>(w: &mut W, offset: usize, val: u32) -> Result<(), Error>
     ensures { λ r. ⌜ Patches offset (Ok (fixedBytes (W·Writer .means (now (w .entry)) .big) 4 val)) (W·Writer .means (now (w .entry))) (W·Writer .memory (now (w .entry))) r (W·Writer .means (now (w .exit))) (W·Writer .memory (now (w .exit))) ⌝ }
 {
-    let bytes = bytes_u32(w.endian(), val);
-    w.write_at(offset, &bytes)
+    w.write_at(offset, &bytes_u32(w.endian(), val))
 }
 
 /// Write a `u64` at an offset.
 pub fn write_u64_at<W: Writer>(w: &mut W, offset: usize, val: u64) -> Result<(), Error>
     ensures { λ r. ⌜ Patches offset (Ok (fixedBytes (W·Writer .means (now (w .entry)) .big) 8 val)) (W·Writer .means (now (w .entry))) (W·Writer .memory (now (w .entry))) r (W·Writer .means (now (w .exit))) (W·Writer .memory (now (w .exit))) ⌝ }
 {
-    let bytes = bytes_u64(w.endian(), val);
-    w.write_at(offset, &bytes)
+    w.write_at(offset, &bytes_u64(w.endian(), val))
 }
 
 /// Write a `u128` at an offset.
 pub fn write_u128_at<W: Writer>(w: &mut W, offset: usize, val: u128) -> Result<(), Error>
     ensures { λ r. ⌜ Patches offset (Ok (fixedBytes (W·Writer .means (now (w .entry)) .big) 16 val)) (W·Writer .means (now (w .entry))) (W·Writer .memory (now (w .entry))) r (W·Writer .means (now (w .exit))) (W·Writer .memory (now (w .exit))) ⌝ }
 {
-    let bytes = bytes_u128(w.endian(), val);
-    w.write_at(offset, &bytes)
+    w.write_at(offset, &bytes_u128(w.endian(), val))
 }
