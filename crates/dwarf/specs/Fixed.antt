@@ -1,12 +1,16 @@
--- Numbers in a fixed width of bytes.
+-- Numbers in a fixed width of bytes, written and read.
 use mathlib.Core.Bool.{Bool, true, false, cond, _||_}
 use mathlib.Core.List.{List, [], _∷_, reverse}
-use Prim.Native.Nat.{ℕ, zero, suc, _/_, _%_, _^_}
-use lib.Dec.{ltb, eqb}
+use Prim.Native.Nat.{ℕ, zero, suc, _+_, _*_, _/_, _%_, _<_, _^_}
+use lib.Dec.{ltb, leb, eqb}
+use lib.ListN.{length, take, drop}
+use Rattle.std.specs.declared.option.Option.{Option}
+use Rattle.std.specs.declared.option.Option.the-variants.{None}
 use Rattle.std.specs.declared.result.Result.{Result}
 use Rattle.std.specs.declared.result.Result.the-variants.{Ok, Err}
 use Rattle.common.specs.declared.error.Error.{Error}
 use Rattle.common.specs.declared.error.Error.the-variants.{ValueTooLarge, UnsupportedWordSize}
+use Rattle.dwarf.specs.Reader.{Got, got, ReadsBack}
 
 -- the low bytes of a number, so many of them, lowest first
 abbrev pub lowBytes : ℕ → ℕ → List ℕ
@@ -26,3 +30,21 @@ isWidth width = eqb width 1 || (eqb width 2 || (eqb width 3 || (eqb width 4 || e
 abbrev pub udata : Bool → ℕ → ℕ → Result (List ℕ) Error
 udata big n width =
     cond (isWidth width) (cond (ltb n (256 ^ width)) (Ok (fixedBytes big width n)) (Err ValueTooLarge)) (Err (UnsupportedWordSize width))
+
+-- the number that bytes are, lowest first
+unfoldable pub number : List ℕ → ℕ
+number [] = 0
+number (b ∷ bytes) = b + 256 * number bytes
+
+-- bytes with the lowest first, which is the last where `big` holds
+abbrev pub lowestFirst : Bool → List ℕ → List ℕ
+lowestFirst true bytes = reverse bytes
+lowestFirst false bytes = bytes
+
+-- a number of that many bytes; no answer where fewer are left
+unfoldable pub readFixed : Bool → ℕ → List ℕ → Option (Got ℕ)
+readFixed big width bytes = cond (leb width (length bytes)) (got (number (lowestFirst big (take width bytes))) (drop width bytes)) None
+
+-- every number reads back from a width that holds it, in either order
+abbrev pub FixedReadsBack : Type 0
+FixedReadsBack = (big : Bool) (width n : ℕ) → n < 256 ^ width → ReadsBack (readFixed big width) (fixedBytes big width n) n

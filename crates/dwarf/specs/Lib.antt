@@ -1,3 +1,4 @@
+pub mod Reader
 pub mod Leb
 pub mod Fixed
 pub mod Tokens

@@ -1,21 +1,21 @@
-use borrow.Author.Needs.{needs}
-use mathlib.Core.Path.{_≡_, sym, ap, _∙_}
-use Prim.Native.Nat.{_+_, _-_, _/_, _≤_, _<_}
+use mathlib.Core.Path.{_≡_, ap}
+use Prim.Native.Nat.{_<_}
 use native.Mathlib.Omega.{arith}
 use lib.ListN.{length}
-use Rattle.dwarf.specs.Leb.{groups}
-use Rattle.leb128.proofs.Steps.{groups-last, not-last, room-falls, more-at}
+use Rattle.dwarf.specs.Leb.{uleb}
+use Rattle.leb128.proofs.Groups.{last-at, not-last, room-falls, more-at}
 use Rattle.leb128.proofs.uleb128_size.Needs as need
 
-pub returns-then-rest-eq0 : need.returns-then-rest-eq0
-returns-then-rest-eq0 c =
-    let e = ap length (groups-last (9 - c .loop-rest .size) (c .loop-rest .rest) (omega arith)) in
-    record { value = omega (arith, e, c .loop-rest .inv .2); small = omega arith }
+pub returns-then-val-eq0 : need.returns-then-val-eq0
+unfolding uleb
+returns-then-val-eq0 c =
+    let e = ap length (last-at (c .group .size) (c .group .val) (omega arith)) in
+    record { value = omega (arith, e, c .group .inv .2); small = omega arith }
 
-pub loop-rest-again : need.loop-rest-again
-loop-rest-again c =
-    let s = c .loop-rest .size in
-    let n = c .loop-rest .rest in
-    let l : s < 9 = not-last s n (c .loop-rest .inv .0) (c .loop-rest .inv .1) (omega arith) in
+pub group-again : need.group-again
+group-again c =
+    let s = c .group .size in
+    let n = c .group .val in
+    let l : s < 9 = not-last s n (c .group .inv .0) (c .group .inv .1) (omega arith) in
     let e = ap length (more-at s n l (omega arith)) in
-    (omega arith, room-falls s n l (c .loop-rest .inv .1), omega (arith, e, c .loop-rest .inv .2))
+    (omega arith, room-falls s n l (c .group .inv .1), omega (arith, e, c .group .inv .2))

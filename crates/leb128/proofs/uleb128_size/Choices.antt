@@ -2,11 +2,11 @@ use mathlib.Core.Path.{_≡_}
 use Prim.Native.Nat.{_+_, _-_, _≤_, _<_}
 use lib.ListN.{length}
 use Rattle.dwarf.specs.Leb.{groups}
-use Rattle.leb128.proofs.Steps.{room}
+use Rattle.leb128.proofs.Groups.{room}
 use Rattle.leb128.proofs.uleb128_size.Given as given
 
-abbrev pub Inv-loop-rest : given.InvT-loop-rest
-Inv-loop-rest l = (l .size ≤ 9) × (l .rest < room (9 - l .size)) × (l .size + length (groups (9 - l .size) (l .rest)) ≡ length (groups 9 (l .val)))
+abbrev pub Inv-group : given.InvT-group
+Inv-group l = (l .size ≤ 9) × (l .val < room (9 - l .size)) × (l .size + length (groups (9 - l .size) (l .val)) ≡ length (groups 9 (l .entry .val)))
 
-abbrev pub μ-loop-rest : given.MeasureT-loop-rest
-μ-loop-rest l = l .rest
+abbrev pub μ-group : given.MeasureT-group
+μ-group l = l .val

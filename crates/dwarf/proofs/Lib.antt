@@ -1,0 +1,4 @@
+pub mod Optional
+pub mod Uleb
+pub mod Sleb
+pub mod Widths
