@@ -2,3 +2,8 @@ pub mod Optional
 pub mod Uleb
 pub mod Sleb
 pub mod Widths
+pub mod Sizes
+pub mod Placeholders
+pub mod Patching
+pub mod ReadBack
+pub mod Joining

@@ -1,16 +1,15 @@
 -- Numbers in a fixed width of bytes, written and read.
 use mathlib.Core.Bool.{Bool, true, false, cond, _||_}
 use mathlib.Core.List.{List, [], _∷_, reverse}
-use Prim.Native.Nat.{ℕ, zero, suc, _+_, _*_, _/_, _%_, _<_, _^_}
-use lib.Dec.{ltb, leb, eqb}
-use lib.ListN.{length, take, drop}
+use Prim.Native.Nat.{ℕ, zero, suc, _+_, _-_, _*_, _/_, _%_, _<_, _^_}
+use lib.Dec.{ltb, eqb}
+use lib.IntN.{ℤ, pos, negsuc}
 use Rattle.std.specs.declared.option.Option.{Option}
-use Rattle.std.specs.declared.option.Option.the-variants.{None}
 use Rattle.std.specs.declared.result.Result.{Result}
 use Rattle.std.specs.declared.result.Result.the-variants.{Ok, Err}
 use Rattle.common.specs.declared.error.Error.{Error}
 use Rattle.common.specs.declared.error.Error.the-variants.{ValueTooLarge, UnsupportedWordSize}
-use Rattle.dwarf.specs.Reader.{Got, got, ReadsBack}
+use Rattle.dwarf.specs.Reader.{Got, got, andThen, readData, ReadsBack}
 
 -- the low bytes of a number, so many of them, lowest first
 abbrev pub lowBytes : ℕ → ℕ → List ℕ
@@ -41,9 +40,18 @@ abbrev pub lowestFirst : Bool → List ℕ → List ℕ
 lowestFirst true bytes = reverse bytes
 lowestFirst false bytes = bytes
 
--- a number of that many bytes; no answer where fewer are left
+-- a number of that many bytes
 unfoldable pub readFixed : Bool → ℕ → List ℕ → Option (Got ℕ)
-readFixed big width bytes = cond (leb width (length bytes)) (got (number (lowestFirst big (take width bytes))) (drop width bytes)) None
+readFixed big width bytes = andThen (readData width bytes) (λ g. got (number (lowestFirst big (g .value))) (g .rest))
+
+-- the two's complement of a signed number in a width of bytes
+abbrev pub twosComplement : ℕ → ℤ → ℕ
+twosComplement width (pos n) = n
+twosComplement width (negsuc m) = 256 ^ width - suc m
+
+-- the signed number whose two's complement in a width of bytes is given: the highest bit is its sign
+abbrev pub signedOf : ℕ → ℕ → ℤ
+signedOf width n = cond (ltb (2 * n) (256 ^ width)) (pos n) (negsuc (256 ^ width - suc n))
 
 -- every number reads back from a width that holds it, in either order
 abbrev pub FixedReadsBack : Type 0

@@ -2,3 +2,8 @@ pub mod Reader
 pub mod Leb
 pub mod Fixed
 pub mod Tokens
+pub mod Codes
+pub mod Bytes
+pub mod Reading
+pub mod References
+pub mod WellFormed

@@ -1,8 +1,10 @@
 -- What a reader of bytes answers.
 use mathlib.Core.Path.{_≡_}
+use mathlib.Core.Bool.{cond}
 use mathlib.Core.List.{List, _++_}
 use Prim.Native.Nat.{ℕ, _+_, _≤_}
-use lib.ListN.{length}
+use lib.Dec.{leb}
+use lib.ListN.{length, take, drop}
 use Rattle.std.specs.declared.option.Option.{Option}
 use Rattle.std.specs.declared.option.Option.the-variants.{None, Some}
 
@@ -19,6 +21,10 @@ got a bytes = Some (record { value = a; rest = bytes })
 abbrev pub andThen : {A B : Type 0} → Option A → (A → Option B) → Option B
 andThen None next = None
 andThen (Some a) next = next a
+
+-- so many bytes as they stand; no answer where fewer are left
+abbrev pub readData : ℕ → List ℕ → Option (Got (List ℕ))
+readData count bytes = cond (leb count (length bytes)) (got (take count bytes) (drop count bytes)) None
 
 -- the bytes read as the value, whatever bytes follow them
 unfoldable pub ReadsBack : {A : Type 0} → (List ℕ → Option (Got A)) → List ℕ → A → Type 0

@@ -1,8 +1,27 @@
-//! The DWARF format: definitions of its numbers and operations, and the theorems that hold of them.
+//! The DWARF format: definitions of its numbers and encoded operations, and the theorems that hold of them.
+//!
+//! The definitions stand in `specs/`. Each function here has a theorem as its contract, and does nothing when it runs.
 
 ghost use Rattle.dwarf.specs.Fixed.{FixedReadsBack};
+ghost use Rattle.dwarf.specs.References.{SizesHold, Patches};
+ghost use Rattle.dwarf.specs.WellFormed.{TokensReadBack};
 
 /// Every number reads back from a fixed width that holds it, in either byte order and whatever follows.
 pub fn fixed_reads_back()
     ensures { λ _. ⌜ FixedReadsBack ⌝ }
+{}
+
+/// Encoded operations take as many bytes as their size says.
+pub fn sizes_hold()
+    ensures { λ _. ⌜ SizesHold ⌝ }
+{}
+
+/// A number written over a reference gives the same operations with that number in its place.
+pub fn patches_hold()
+    ensures { λ _. ⌜ Patches ⌝ }
+{}
+
+/// Well-formed operations read back from their bytes, at any nesting.
+pub fn tokens_read_back()
+    ensures { λ _. ⌜ TokensReadBack ⌝ }
 {}
