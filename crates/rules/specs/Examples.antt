@@ -1,0 +1,120 @@
+-- Worked examples, evaluated on the definitions.
+use mathlib.Core.Path.{_≡_}
+use mathlib.Core.Bool.{true, false, cond}
+use mathlib.Core.List.{List, [], _∷_}
+use Prim.Native.Nat.{ℕ}
+use lib.Dec.{eqb}
+use lib.IntN.{pos, negsuc}
+use Rattle.std.specs.declared.option.Option.{Option}
+use Rattle.std.specs.declared.option.Option.the-variants.{None, Some}
+use Rattle.std.specs.declared.result.Result.{Result}
+use Rattle.std.specs.declared.result.Result.the-variants.{Ok, Err}
+use Rattle.common.specs.declared.address.Address.the-variants as address
+use Rattle.common.specs.declared.encoding.Encoding.{Encoding}
+use Rattle.common.specs.declared.encoding.Register.{Register}
+use Rattle.common.specs.declared.encoding.Format.the-variants.{Dwarf32}
+use Rattle.common.specs.declared.error.Error.{Error}
+use Rattle.common.specs.declared.error.Error.the-variants.{
+  ValueTooLarge,
+  UnsupportedWordSize,
+  InvalidAddress,
+  InvalidReference,
+  UnsupportedExpressionForwardReference,
+  UnsupportedCfiExpressionReference,
+}
+use Rattle.op.specs.declared.operation.DebugInfoRef.the-variants as debug
+use Rattle.op.specs.declared.operation.Operation.{Operation}
+use Rattle.op.specs.declared.operation.Operation.the-variants.{
+  Simple,
+  Address,
+  UnsignedConstant,
+  SignedConstant,
+  ConstantType,
+  RegisterOffset,
+  Skip,
+  Branch,
+  Call,
+  CallRef,
+  Convert,
+  EntryValue,
+  ImplicitPointer,
+}
+use Rattle.rules.specs.Results.{andThen}
+use Rattle.rules.specs.Bytes.{bytesOf}
+use Rattle.rules.specs.Encode.{encode}
+use Rattle.rules.specs.References.{Reference, references}
+use Rattle.rules.specs.Scope.{Scope, frame, unit}
+use Rattle.rules.specs.Sizes.{sizeTree}
+use Rattle.rules.specs.Tree.{Expression, Store, Tree, end, plain, treeOf}
+
+-- a version, an address size, in 32-bit DWARF
+abbrev pub dwarf32 : ℕ → ℕ → Encoding
+dwarf32 version size = record { «address_size» = size; format = Dwarf32; version = version }
+
+abbrev pub version5 : Encoding
+version5 = dwarf32 5 4
+
+-- a unit that starts at 100 in the section; of its entries just entry 3 is placed, 130 past the unit's start
+abbrev pub unit100 : Scope
+unit100 = unit 100 (λ entry. cond (eqb entry 3) (Some 230) None)
+
+-- the bytes of an expression in that unit, little-endian
+abbrev pub written : Encoding → Tree → Result (List ℕ) Error
+written e t = andThen (encode e unit100 t) (λ a. Ok (bytesOf false a))
+
+-- the bytes of a frame expression
+abbrev pub framed : Encoding → Tree → Result (List ℕ) Error
+framed e t = andThen (encode e frame t) (λ a. Ok (bytesOf false a))
+
+-- operations without data in a row
+abbrev pub row : List Operation → Tree
+row [] = end
+row (o ∷ os) = plain o [] (row os)
+
+abbrev pub register : ℕ → Register
+register n = record { 0 = n }
+
+-- one data byte 07; expression 0 calls entry 5 of unit 2; expression 1 is the entry value of that, then a stack value
+abbrev pub store : Store
+store = record {
+  operations = CallRef (debug.Entry 2 5) ∷ EntryValue 0 ∷ Simple (record { 0 = 0x9f }) ∷ ConstantType 3 (record { start = 0; len = 1 }) ∷ [];
+  bytes = 0x07 ∷ [];
+  expressions = record { start = 0; count = 1 } ∷ record { start = 1; count = 2 } ∷ record { start = 3; count = 1 } ∷ [];
+}
+
+abbrev pub Worked : Type 0
+Worked =
+    -- constants and registers, below 32 and from 32 on
+    (written version5 (row (UnsignedConstant 31 ∷ [])) ≡ Ok (0x4f ∷ []))
+    × (written version5 (row (UnsignedConstant 32 ∷ [])) ≡ Ok (0x10 ∷ 0x20 ∷ []))
+    × (written version5 (row (SignedConstant (negsuc 64) ∷ [])) ≡ Ok (0x11 ∷ 0xbf ∷ 0x7f ∷ []))
+    × (written version5 (row (RegisterOffset (register 31) (pos 0) ∷ [])) ≡ Ok (0x8f ∷ 0x00 ∷ []))
+    × (written version5 (row (RegisterOffset (register 32) (pos 0) ∷ [])) ≡ Ok (0x92 ∷ 0x20 ∷ 0x00 ∷ []))
+    -- branches, to the end and back to operation 0; the second in big-endian order too
+    × (written version5 (row (Skip (Some 2) ∷ UnsignedConstant 5 ∷ [])) ≡ Ok (0x2f ∷ 0x01 ∷ 0x00 ∷ 0x35 ∷ []))
+    × (written version5 (row (UnsignedConstant 5 ∷ Branch (Some 0) ∷ [])) ≡ Ok (0x35 ∷ 0x28 ∷ 0xfc ∷ 0xff ∷ []))
+    × (andThen (encode version5 unit100 (row (UnsignedConstant 5 ∷ Branch (Some 0) ∷ []))) (λ a. Ok (bytesOf true a)) ≡ Ok (0x35 ∷ 0x28 ∷ 0xff ∷ 0xfc ∷ []))
+    -- a base 130 past the unit's start, in versions 5 and 4
+    × (written version5 (treeOf 17 store 2) ≡ Ok (0xa4 ∷ 0x82 ∷ 0x01 ∷ 0x01 ∷ 0x07 ∷ []))
+    × (written (dwarf32 4 4) (treeOf 17 store 2) ≡ Ok (0xf4 ∷ 0x82 ∷ 0x01 ∷ 0x01 ∷ 0x07 ∷ []))
+    -- an entry value; the reference stands 3 bytes after the expression's start
+    × (written version5 (treeOf 17 store 1) ≡ Ok (0xa3 ∷ 0x05 ∷ 0x9a ∷ 0x00 ∷ 0x00 ∷ 0x00 ∷ 0x00 ∷ 0x9f ∷ []))
+    × (andThen (encode version5 unit100 (treeOf 17 store 1)) (λ a. Ok (references 0 a)) ≡ Ok (record { place = 3; width = 4; owner = 2; entry = 5 } ∷ []))
+    -- an address of 5 bytes has a size and is refused; a symbol is refused before the width, the width before the number
+    × (sizeTree (dwarf32 5 5) unit100 (row (Address (address.Constant 1) ∷ [])) ≡ Ok 6)
+    × (written (dwarf32 5 5) (row (Address (address.Constant 1) ∷ [])) ≡ Err (UnsupportedWordSize 5))
+    × (written (dwarf32 5 5) (row (Address (address.Symbol 1 (pos 0)) ∷ [])) ≡ Err InvalidAddress)
+    × (written (dwarf32 5 1) (row (Address (address.Constant 256) ∷ [])) ≡ Err ValueTooLarge)
+    × (written (dwarf32 5 1) (row (Address (address.Constant 255) ∷ [])) ≡ Ok (0x03 ∷ 0xff ∷ []))
+    -- sizes come first: a base that is not placed is refused before an address in front of it
+    × (written (dwarf32 5 5) (row (Address (address.Constant 1) ∷ Convert (Some 4) ∷ [])) ≡ Err UnsupportedExpressionForwardReference)
+    × (written (dwarf32 5 5) (row (Address (address.Constant 1) ∷ Call 4 ∷ [])) ≡ Err (UnsupportedWordSize 5))
+    × (written version5 (row (Call 3 ∷ [])) ≡ Ok (0x99 ∷ 0x82 ∷ 0x00 ∷ 0x00 ∷ 0x00 ∷ []))
+    -- in a frame expression no base has an offset but the generic type, and no entry is referred to
+    × (framed version5 (row (Convert (Some 3) ∷ [])) ≡ Err UnsupportedCfiExpressionReference)
+    × (framed version5 (row (Convert None ∷ [])) ≡ Ok (0xa8 ∷ 0x00 ∷ []))
+    × (framed (dwarf32 2 5) (row (ImplicitPointer (debug.Entry 2 5) (pos 0) ∷ [])) ≡ Err InvalidReference)
+    -- the reference of an implicit pointer is as wide as an address in version 2
+    × (written (dwarf32 2 5) (row (ImplicitPointer (debug.Entry 2 5) (pos 0) ∷ [])) ≡ Err (UnsupportedWordSize 5))
+    × (written (dwarf32 2 1) (row (ImplicitPointer (debug.Entry 2 5) (pos 0) ∷ [])) ≡ Ok (0xf2 ∷ 0x00 ∷ 0x00 ∷ []))
+    × (written (dwarf32 3 1) (row (ImplicitPointer (debug.Entry 2 5) (pos 0) ∷ [])) ≡ Ok (0xf2 ∷ 0x00 ∷ 0x00 ∷ 0x00 ∷ 0x00 ∷ 0x00 ∷ []))

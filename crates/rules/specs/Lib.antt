@@ -1,0 +1,13 @@
+pub mod Results
+pub mod Tree
+pub mod Scope
+pub mod Bytes
+pub mod Sizes
+pub mod Operands
+pub mod Encode
+pub mod Kinds
+pub mod Readable
+pub mod References
+pub mod Branches
+pub mod Claims
+pub mod Examples
