@@ -1,1 +1,5 @@
+pub mod Results
+pub mod Join
+pub mod OperationSizes
+pub mod Sizes
 mod Examples

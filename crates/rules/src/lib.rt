@@ -1,6 +1,14 @@
 //! What an expression is in bytes: definitions and their theorems.
 
+ghost use Rattle.rules.specs.Claims.{Sizes-hold};
 ghost use Rattle.rules.specs.Examples.{Worked};
+
+/// The size of an accepted expression is the number of its bytes.
+pub fn sizes_hold() -> u8
+    ensures { λ _. ⌜ Sizes-hold ⌝ }
+{
+    0
+}
 
 /// The worked examples hold.
 pub fn examples_hold() -> u8

@@ -1,0 +1,90 @@
+-- The size of an expression is the number of its bytes.
+use mathlib.Core.Path.{_≡_, refl, sym, ap, ap₂, _∙_}
+use mathlib.Core.Bool.{Bool, true, false}
+use mathlib.Core.List.{List, [], _∷_, _++_, reverse}
+use Prim.Native.Nat.{ℕ, zero, suc, _+_, _%_, _/_}
+use native.Mathlib.Omega.{arith}
+use lib.ListN.{length, replicate, length-append, length-replicate, length-reverse}
+use Rattle.std.specs.declared.result.Result.{Result}
+use Rattle.std.specs.declared.result.Result.the-variants.{Ok, Err}
+use Rattle.common.specs.declared.encoding.Encoding.{Encoding}
+use Rattle.common.specs.declared.error.Error.{Error}
+use Rattle.dwarf.specs.Fixed.{lowBytes, fixedBytes}
+use Rattle.dwarf.specs.Leb.{uleb, sleb}
+use Rattle.dwarf.specs.Tokens.{Tokens, done, code, unsigned, signed, fixed, displacement, block, short, nested, reference, raw}
+use Rattle.rules.specs.Results.{andThen, plus}
+use Rattle.rules.specs.Bytes.{sizeOf, bytesOf, sixteenBits}
+use Rattle.rules.specs.Claims.{Sizes-hold}
+use Rattle.rules.specs.Encode.{join, starts, encodeOp, encodeTree, encode}
+use Rattle.rules.specs.Operands.{byVersion, displaced}
+use Rattle.rules.specs.Scope.{Scope}
+use Rattle.rules.specs.Sizes.{sizeOp, sizeTree, nestedSize, extentOp, extentNested}
+use Rattle.rules.specs.Tree.{Tree, end, plain, nest}
+use Rattle.rules.proofs.Join.{size-join}
+use Rattle.rules.proofs.OperationSizes.{operation-size}
+use Rattle.rules.proofs.Results.{value-is, first-step, last-step}
+
+pub length-low : (width n : ℕ) → length (lowBytes width n) ≡ width
+length-low zero n = refl
+length-low (suc width) n = ap suc (length-low width (n / 256))
+
+pub length-fixed : (big : Bool) (width n : ℕ) → length (fixedBytes big width n) ≡ width
+length-fixed true width n = length-reverse (lowBytes width n) ∙ length-low width n
+length-fixed false width n = length-low width n
+
+-- bytes in front of others
+in-front : (front rest : List ℕ) (m n : ℕ) → length front ≡ m → length rest ≡ n → length (front ++ rest) ≡ m + n
+in-front front rest m n e f = length-append front rest ∙ ap₂ (λ (j k : ℕ). j + k) e f
+
+pub length-bytes : (big : Bool) (a : Tokens) → length (bytesOf big a) ≡ sizeOf a
+length-bytes big done = refl
+length-bytes big (code c r) = let e = length-bytes big r in omega arith
+length-bytes big (unsigned n r) = in-front (uleb n) (bytesOf big r) (length (uleb n)) (sizeOf r) refl (length-bytes big r)
+length-bytes big (signed z r) = in-front (sleb z) (bytesOf big r) (length (sleb z)) (sizeOf r) refl (length-bytes big r)
+length-bytes big (fixed width n r) = in-front (fixedBytes big width n) (bytesOf big r) width (sizeOf r) (length-fixed big width n) (length-bytes big r)
+length-bytes big (displacement z r) =
+    in-front (fixedBytes big 2 (sixteenBits z)) (bytesOf big r) 2 (sizeOf r) (length-fixed big 2 (sixteenBits z)) (length-bytes big r)
+length-bytes big (block bs r) =
+    in-front (uleb (length bs)) (bs ++ bytesOf big r) (length (uleb (length bs))) (length bs + sizeOf r) refl
+    (in-front bs (bytesOf big r) (length bs) (sizeOf r) refl (length-bytes big r))
+length-bytes big (short bs r) = let e = in-front bs (bytesOf big r) (length bs) (sizeOf r) refl (length-bytes big r) in omega arith
+length-bytes big (nested a r) =
+    in-front (uleb (sizeOf a)) (bytesOf big a ++ bytesOf big r) (length (uleb (sizeOf a))) (sizeOf a + sizeOf r) refl
+    (in-front (bytesOf big a) (bytesOf big r) (sizeOf a) (sizeOf r) (length-bytes big a) (length-bytes big r))
+length-bytes big (reference width owner entry r) =
+    in-front (replicate width 0) (bytesOf big r) width (sizeOf r) (length-replicate width 0) (length-bytes big r)
+length-bytes big (raw bs r) = in-front bs (bytesOf big r) (length bs) (sizeOf r) refl (length-bytes big r)
+
+-- two sizes that are known
+pub plus-known : (x y : Result ℕ Error) (m n : ℕ) → x ≡ Ok m → y ≡ Ok n → plus x y ≡ Ok (m + n)
+plus-known x y m n e f = ap₂ plus e f
+
+module _ (e : Encoding) (s : Scope) where
+  -- what the encoding of the operations that follow is joined to
+  front-size : (x y : Result ℕ Error) (F : Tokens → Tokens) (k : ℕ) (r : Tokens) → ((t : Tokens) → sizeOf (F t) ≡ k + sizeOf t) →
+      x ≡ Ok k → y ≡ Ok (sizeOf r) → plus x y ≡ Ok (sizeOf (F r))
+  front-size x y F k r sums ex ey = plus-known x y k (sizeOf r) ex ey ∙ ap Ok (sym (sums r))
+
+  pub tree-size : (hs : List ℕ) (p : ℕ) (t : Tree) (a : Tokens) → encodeTree e s hs p t ≡ Ok a → sizeTree e s t ≡ Ok (sizeOf a)
+  tree-size hs p end a h = value-is (λ r. sizeTree e s end ≡ Ok (sizeOf r)) done a h refl
+  tree-size hs p (plain o bs t) a h =
+      first-step (encodeOp e s (displaced hs (p + 3)) o bs) (λ x. andThen (encodeTree e s hs (p + extentOp e s o bs) t) (λ r. Ok (join x r)))
+      (sizeTree e s (plain o bs t) ≡ Ok (sizeOf a)) a h
+      (λ x is k. last-step (encodeTree e s hs (p + extentOp e s o bs) t) (join x) (λ y. sizeTree e s (plain o bs t) ≡ Ok (sizeOf y)) a k
+        (λ r ir. front-size (sizeOp e s o bs) (sizeTree e s t) (join x) (sizeOf x) r (size-join x)
+          (operation-size e s (displaced hs (p + 3)) o bs x is) (tree-size hs (p + extentOp e s o bs) t r ir)))
+  tree-size hs p (nest y t) a h =
+      first-step (encodeTree e s (starts e s 0 y) 0 y)
+      (λ x. andThen (encodeTree e s hs (p + extentNested e s y) t) (λ r. Ok (code (byVersion e 0xa3 0xf3) (nested x r))))
+      (sizeTree e s (nest y t) ≡ Ok (sizeOf a)) a h
+      (λ x is k. last-step (encodeTree e s hs (p + extentNested e s y) t) (λ r. code (byVersion e 0xa3 0xf3) (nested x r))
+        (λ z. sizeTree e s (nest y t) ≡ Ok (sizeOf z)) a k
+        (λ r ir. front-size (nestedSize (sizeTree e s y)) (sizeTree e s t) (λ r. code (byVersion e 0xa3 0xf3) (nested x r))
+          (1 + (length (uleb (sizeOf x)) + sizeOf x)) r (λ z. omega arith)
+          (ap nestedSize (tree-size (starts e s 0 y) 0 y x is)) (tree-size hs (p + extentNested e s y) t r ir)))
+
+pub sizes-hold : Sizes-hold
+sizes-hold e s t a h =
+    (first-step (sizeTree e s t) (λ size. encodeTree e s (starts e s 0 t) 0 t) (sizeTree e s t ≡ Ok (sizeOf a)) a h
+      (λ n is k. tree-size e s (starts e s 0 t) 0 t a k),
+     λ big. length-bytes big a)
