@@ -15,12 +15,10 @@ use Rattle.std.specs.declared.result.Result.the-variants.{Ok, Err}
 use Rattle.common.specs.Formats.{wordSize}
 use Rattle.common.specs.declared.encoding.Encoding.{Encoding}
 use Rattle.common.specs.declared.error.Error.{Error}
-use Rattle.common.specs.declared.error.Error.the-variants.{NoExpression, InvalidReference, UnsupportedWordSize, ValueTooLarge}
-use Rattle.dwarf.specs.Fixed.{isWidth}
+use Rattle.common.specs.declared.error.Error.the-variants.{NoExpression, ValueTooLarge}
 use Rattle.dwarf.specs.Leb.{uleb, sleb}
 use Rattle.dwarf.specs.Tokens.{Tokens, done, code, unsigned, signed, fixed, displacement, block, short, nested, reference, raw}
 use Rattle.op.specs.declared.operation.DebugInfoRef.{DebugInfoRef}
-use Rattle.op.specs.declared.operation.DebugInfoRef.the-variants.{Symbol, Entry}
 use Rattle.op.specs.declared.operation.Operation.{Operation}
 use Rattle.op.specs.declared.operation.Operation.the-variants.{
   Raw, Simple, Address, UnsignedConstant, SignedConstant, ConstantType, FrameOffset, RegisterOffset, RegisterType, Pick, Deref, DerefSize, DerefType,
@@ -30,8 +28,9 @@ use Rattle.rules.specs.Results.{andThen}
 use Rattle.rules.specs.Bytes.{sizeOf}
 use Rattle.rules.specs.Encode.{encodeOp}
 use Rattle.rules.specs.Operands.{byVersion, inWidth, addressIn, shortData, referred}
-use Rattle.rules.specs.Scope.{Scope, frame, unit, baseOf, baseOrGeneric}
+use Rattle.rules.specs.Scope.{Scope, baseOf, baseOrGeneric}
 use Rattle.rules.specs.Sizes.{sizeOp, pointerSize}
+use Rattle.rules.proofs.References.{referred-is}
 use Rattle.rules.proofs.Results.{not-refused, value-is, first-step, last-step}
 
 -- a size that is known to be the tokens'
@@ -59,13 +58,7 @@ checked : {X : Type 0} (x : Result X Error) (F : X → Tokens) (n : ℕ) (a : To
 checked x F n a h e = last-step x F (Sized (Ok n)) a h (λ v is. ap Ok (e v is))
 
 pub referred-size : (s : Scope) (width : ℕ) (to : DebugInfoRef) (rest a : Tokens) → referred s width to rest ≡ Ok a → sizeOf a ≡ width + sizeOf rest
-referred-size s width (Symbol symbol) rest a h = not-refused (sizeOf a ≡ width + sizeOf rest) InvalidReference a h
-referred-size frame width (Entry owner entry) rest a h = not-refused (sizeOf a ≡ width + sizeOf rest) InvalidReference a h
-referred-size (unit start offsets) width (Entry owner entry) rest a h = go (isWidth width) h
-  where
-    go : (b : Bool) → cond b (Ok (reference width owner entry rest)) (Err (UnsupportedWordSize width)) ≡ Ok a → sizeOf a ≡ width + sizeOf rest
-    go true k = value-is (λ t. sizeOf t ≡ width + sizeOf rest) (reference width owner entry rest) a k refl
-    go false k = not-refused (sizeOf a ≡ width + sizeOf rest) (UnsupportedWordSize width) a k
+referred-size s width to rest a h = referred-is (λ t. sizeOf t ≡ width + sizeOf rest) s width to rest a h (λ owner entry fits. refl)
 
 referring : (s : Scope) (width c n : ℕ) (to : DebugInfoRef) (rest a : Tokens) → andThen (referred s width to rest) (λ t. Ok (code c t)) ≡ Ok a →
     n ≡ 1 + (width + sizeOf rest) → Sized (Ok n) a

@@ -1,11 +1,18 @@
 //! What an expression is in bytes: definitions and their theorems.
 
-ghost use Rattle.rules.specs.Claims.{Sizes-hold};
+ghost use Rattle.rules.specs.Claims.{Branches-lead, Sizes-hold};
 ghost use Rattle.rules.specs.Examples.{Worked};
 
 /// The size of an accepted expression is the number of its bytes.
 pub fn sizes_hold() -> u8
     ensures { λ _. ⌜ Sizes-hold ⌝ }
+{
+    0
+}
+
+/// Every branch of an accepted expression leads to the operation that it names, or to its expression's end.
+pub fn branches_lead() -> u8
+    ensures { λ _. ⌜ Branches-lead ⌝ }
 {
     0
 }

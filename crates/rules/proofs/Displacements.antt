@@ -1,0 +1,114 @@
+-- The bytes of tokens tell their displacements.
+use mathlib.Core.Path.{_≡_, refl, sym, ap, ap₂, _∙_}
+use mathlib.Core.Bool.{Bool, true, false, cond}
+use mathlib.Core.List.{List, [], _∷_, _++_, append-assoc}
+use Prim.Native.Nat.{ℕ, _+_, _-_, _*_, _/_, _%_, _<_, _≤_}
+use native.Mathlib.Omega.{arith}
+use lib.Dec.{ltb}
+use lib.IntN.{ℤ, pos, negsuc}
+use lib.ListN.{length, getD, replicate, length-append, length-replicate}
+use lib.Seq.{getD-at}
+use Rattle.std.proofs.shelf.Tests.{ltb-true, lt-ltb, le-ltb}
+use Rattle.dwarf.specs.Fixed.{fixedBytes}
+use Rattle.dwarf.specs.Leb.{uleb, sleb}
+use Rattle.dwarf.specs.Tokens.{Tokens, done, code, unsigned, signed, fixed, displacement, block, short, nested, reference, raw}
+use Rattle.rules.specs.Branches.{Mark, first, jump, inner, marks, twoBytes, fromSixteen, signedAt}
+use Rattle.rules.specs.Bytes.{sizeOf, bytesOf, sixteenBits}
+use Rattle.rules.specs.Operands.{inTwoBytes}
+use Rattle.rules.proofs.Sizes.{length-bytes, length-fixed}
+
+-- sixteen bits hold the number
+sixteen-back : (z : ℤ) → inTwoBytes z ≡ true → (sixteenBits z < 65536) × (fromSixteen (sixteenBits z) ≡ z)
+sixteen-back (pos n) h = let l = ltb-true n 32768 h in (omega arith, rw (lt-ltb n 32768 l))
+sixteen-back (negsuc m) h =
+    let l = ltb-true m 32768 h in
+    let g : 32768 ≤ 65535 - m = omega arith in
+    (omega arith, rw (le-ltb (65535 - m) 32768 g) (ap negsuc (omega arith)))
+
+-- two bytes that stand at a place
+first-of : (before rest : List ℕ) (a b p : ℕ) → length before ≡ p → getD (before ++ (a ∷ b ∷ rest)) p 0 ≡ a
+first-of before rest a b p l = getD-at before a (b ∷ rest) 0 p l
+
+second-of : (before rest : List ℕ) (a b p : ℕ) → length before ≡ p → getD (before ++ (a ∷ b ∷ rest)) (p + 1) 0 ≡ b
+second-of before rest a b p l =
+    ap (λ (xs : List ℕ). getD xs (p + 1) 0) (sym (append-assoc before (a ∷ []) (b ∷ rest)))
+    ∙ getD-at (before ++ (a ∷ [])) b rest 0 (p + 1) (length-append before (a ∷ []) ∙ ap (λ (k : ℕ). k + 1) l)
+
+-- two bytes hold sixteen bits
+two-back : (big : Bool) (n : ℕ) (before rest : List ℕ) (p : ℕ) → n < 65536 → length before ≡ p →
+    twoBytes big (getD (before ++ (fixedBytes big 2 n ++ rest)) p 0) (getD (before ++ (fixedBytes big 2 n ++ rest)) (p + 1) 0) ≡ n
+two-back true n before rest p h l =
+    ap₂ (λ (a b : ℕ). 256 * a + b) (first-of before rest (n / 256 % 256) (n % 256) p l) (second-of before rest (n / 256 % 256) (n % 256) p l) ∙ omega arith
+two-back false n before rest p h l =
+    ap₂ (λ (a b : ℕ). a + 256 * b) (first-of before rest (n % 256) (n / 256 % 256) p l) (second-of before rest (n % 256) (n / 256 % 256) p l) ∙ omega arith
+
+-- the two bytes of a displacement tell it
+pub displacement-back : (big : Bool) (z : ℤ) (before rest : List ℕ) (p : ℕ) → inTwoBytes z ≡ true → length before ≡ p →
+    signedAt big (before ++ (fixedBytes big 2 (sixteenBits z) ++ rest)) p ≡ z
+displacement-back big z before rest p h l =
+    let b = sixteen-back z h in ap fromSixteen (two-back big (sixteenBits z) before rest p (b .0) l) ∙ b .1
+
+-- tokens stand in bytes, so many bytes after a place
+pub record Stands (big : Bool) (bs : List ℕ) (q : ℕ) (a : Tokens) : Type 0 where
+  pub before : List ℕ
+  pub after : List ℕ
+  pub whole : bs ≡ before ++ (bytesOf big a ++ after)
+  pub place : length before ≡ q
+
+-- what a mark says of the bytes; q is where the run begins
+abbrev pub Shown : Bool → List ℕ → ℕ → Mark → Type 0
+Shown big bs q (first p) = Unit {0}
+Shown big bs q (jump p z) = inTwoBytes z ≡ true → signedAt big bs (q + p) ≡ z
+Shown big bs q (inner p a) = Stands big bs (q + p) a
+
+abbrev pub AllShown : Bool → List ℕ → ℕ → List Mark → Type 0
+AllShown big bs q [] = Unit {0}
+AllShown big bs q (m ∷ ms) = Shown big bs q m × AllShown big bs q ms
+
+module _ (big : Bool) (bs : List ℕ) (q : ℕ) where
+  -- the tokens that follow on some bytes
+  followed : (p n : ℕ) (front : List ℕ) (before after : List ℕ) (r : Tokens) → length front ≡ n → length before ≡ q + p →
+      bs ≡ before ++ ((front ++ bytesOf big r) ++ after) → Stands big bs (q + (p + n)) r
+  followed p n front before after r f l e =
+      record
+        { before = before ++ front
+        ; after = after
+        ; whole = e ∙ ap (λ (xs : List ℕ). before ++ xs) (append-assoc front (bytesOf big r) after) ∙ sym (append-assoc before front (bytesOf big r ++ after))
+        ; place = let k = length-append before front in omega arith }
+
+  pub marks-shown : (p : ℕ) (a : Tokens) → Stands big bs (q + p) a → AllShown big bs q (marks p a)
+  marks-shown p done s = tt
+  marks-shown p (code c r) s = (tt, marks-shown (p + 1) r (followed p 1 (c ∷ []) (s .before) (s .after) r refl (s .place) (s .whole)))
+  marks-shown p (unsigned n r) s =
+      marks-shown (p + length (uleb n)) r (followed p (length (uleb n)) (uleb n) (s .before) (s .after) r refl (s .place) (s .whole))
+  marks-shown p (signed z r) s =
+      marks-shown (p + length (sleb z)) r (followed p (length (sleb z)) (sleb z) (s .before) (s .after) r refl (s .place) (s .whole))
+  marks-shown p (fixed width n r) s =
+      marks-shown (p + width) r (followed p width (fixedBytes big width n) (s .before) (s .after) r (length-fixed big width n) (s .place) (s .whole))
+  marks-shown p (displacement z r) s =
+      let front : List ℕ = fixedBytes big 2 (sixteenBits z) in
+      ((λ fits. ap (λ (xs : List ℕ). signedAt big xs (q + p)) (s .whole ∙ ap (λ (xs : List ℕ). s .before ++ xs) (append-assoc front (bytesOf big r) (s .after)))
+         ∙ displacement-back big z (s .before) (bytesOf big r ++ s .after) (q + p) fits (s .place)),
+       marks-shown (p + 2) r (followed p 2 front (s .before) (s .after) r (length-fixed big 2 (sixteenBits z)) (s .place) (s .whole)))
+  marks-shown p (block ds r) s =
+      let n : ℕ = length (uleb (length ds)) + length ds in
+      marks-shown (p + n) r (followed p n (uleb (length ds) ++ ds) (s .before) (s .after) r (length-append (uleb (length ds)) ds) (s .place)
+        (s .whole ∙ ap (λ (xs : List ℕ). s .before ++ (xs ++ s .after)) (sym (append-assoc (uleb (length ds)) ds (bytesOf big r)))))
+  marks-shown p (short ds r) s =
+      marks-shown (p + (1 + length ds)) r (followed p (1 + length ds) (length ds ∷ ds) (s .before) (s .after) r (omega arith) (s .place) (s .whole))
+  marks-shown p (nested a r) s =
+      let head : List ℕ = uleb (sizeOf a) in
+      let n : ℕ = length head + sizeOf a in
+      let regrouped : bs ≡ s .before ++ (((head ++ bytesOf big a) ++ bytesOf big r) ++ s .after) =
+            s .whole ∙ ap (λ (xs : List ℕ). s .before ++ (xs ++ s .after)) (sym (append-assoc head (bytesOf big a) (bytesOf big r))) in
+      let size : length (head ++ bytesOf big a) ≡ n = length-append head (bytesOf big a) ∙ ap (λ (k : ℕ). length head + k) (length-bytes big a) in
+      (record
+        { before = s .before ++ head
+        ; after = bytesOf big r ++ s .after
+        ; whole = regrouped ∙ simp append-assoc
+        ; place = let k = length-append (s .before) head in let l = s .place in omega arith },
+       marks-shown (p + n) r (followed p n (head ++ bytesOf big a) (s .before) (s .after) r size (s .place) regrouped))
+  marks-shown p (reference width owner entry r) s =
+      marks-shown (p + width) r (followed p width (replicate width 0) (s .before) (s .after) r (length-replicate width 0) (s .place) (s .whole))
+  marks-shown p (raw ds r) s =
+      (tt, marks-shown (p + length ds) r (followed p (length ds) ds (s .before) (s .after) r refl (s .place) (s .whole)))
