@@ -5,3 +5,4 @@ pub mod constants;
 pub mod encoding;
 pub mod endianity;
 pub mod error;
+pub mod fixup;

@@ -10,7 +10,8 @@ use Rattle.dwarf.specs.Leb.{uleb, sleb}
 use Rattle.dwarf.specs.Tokens.{Tokens, done, code, unsigned, signed, fixed, displacement, block, short, nested, reference, raw}
 use Rattle.dwarf.specs.Codes.{Kind}
 use Rattle.dwarf.specs.Bytes.{bytesOf, sizeOf, joined}
-use Rattle.dwarf.specs.References.{Placeholder, references, shown, Wide}
+use Rattle.common.specs.declared.fixup.DebugInfoFixup.{DebugInfoFixup}
+use Rattle.dwarf.specs.References.{references, shown, Wide}
 use Rattle.dwarf.specs.WellFormed.{WellFormed, at-end, at-code, at-unsigned, at-signed, at-fixed, at-displacement, at-block, at-short, at-nested, at-reference}
 
 pub size-joined : (a next : Tokens) → sizeOf (joined a next) ≡ sizeOf a + sizeOf next

@@ -11,7 +11,8 @@ use Rattle.dwarf.specs.Leb.{uleb, sleb}
 use Rattle.dwarf.specs.Fixed.{fixedBytes, twosComplement}
 use Rattle.dwarf.specs.Tokens.{Tokens, done, code, unsigned, signed, fixed, displacement, block, short, nested, reference, raw}
 use Rattle.dwarf.specs.Bytes.{bytesOf, sizeOf}
-use Rattle.dwarf.specs.References.{Placeholder, references, shown, Wide, In, put, patched, Patches}
+use Rattle.common.specs.declared.fixup.DebugInfoFixup.{DebugInfoFixup}
+use Rattle.dwarf.specs.References.{references, shown, Wide, In, put, patched, Patches}
 use Rattle.dwarf.proofs.Widths.{length-fixed}
 use Rattle.dwarf.proofs.Sizes.{length-shown}
 use Rattle.dwarf.proofs.Placeholders.{in-append, inside, shown-same, put-other, put-here, wide-in}
@@ -45,7 +46,7 @@ differ-before post h =
       start = h .start;
     }
 
-module _ (big : Bool) (value : ℕ → ℕ) (p : Placeholder) (n : ℕ) where
+module _ (big : Bool) (value : ℕ → ℕ) (p : DebugInfoFixup) (n : ℕ) where
   abbrev value′ : ℕ → ℕ
   value′ = put value (p .offset) n
 
@@ -85,8 +86,8 @@ module _ (big : Bool) (value : ℕ → ℕ) (p : Placeholder) (n : ℕ) where
       → record { offset = at; width = width; unit = unit; entry = entry } ≡ p → Step at (reference width unit entry ts)
   unfolding shown bytesOf Step
   at-reference at width unit entry ts w e =
-      let a : p .offset ≡ at = sym (ap (λ (q : Placeholder). q .offset) e) in
-      let b : p .width ≡ width = sym (ap (λ (q : Placeholder). q .width) e) in
+      let a : p .offset ≡ at = sym (ap (λ (q : DebugInfoFixup). q .offset) e) in
+      let b : p .width ≡ width = sym (ap (λ (q : DebugInfoFixup). q .width) e) in
       let l = w .0 in
       let here : value′ at ≡ n = ap value′ (sym a) ∙ put-here value (p .offset) n in
       let es : shown value (at + width) ts ≡ shown value′ (at + width) ts =

@@ -9,28 +9,29 @@ use Rattle.std.proofs.shelf.Tests.{eq-eqb, ne-eqb}
 use Rattle.dwarf.specs.Leb.{uleb, sleb}
 use Rattle.dwarf.specs.Tokens.{Tokens, done, code, unsigned, signed, fixed, displacement, block, short, nested, reference, raw}
 use Rattle.dwarf.specs.Bytes.{sizeOf}
-use Rattle.dwarf.specs.References.{Placeholder, references, shown, Wide, In, put}
+use Rattle.common.specs.declared.fixup.DebugInfoFixup.{DebugInfoFixup}
+use Rattle.dwarf.specs.References.{references, shown, Wide, In, put}
 
-pub in-append : (p : Placeholder) (xs ys : List Placeholder) → In p (xs ++ ys) → In p xs ⊎ In p ys
+pub in-append : (p : DebugInfoFixup) (xs ys : List DebugInfoFixup) → In p (xs ++ ys) → In p xs ⊎ In p ys
 in-append p [] ys h = inr h
 in-append p (x ∷ xs) ys (inl e) = inl (inl e)
 in-append p (x ∷ xs) ys (inr h) = elim (in-append p xs ys h) [ inl k ↦ inl (inr k) | inr k ↦ inr k ]
 
-pub in-left : (p : Placeholder) (xs ys : List Placeholder) → In p xs → In p (xs ++ ys)
+pub in-left : (p : DebugInfoFixup) (xs ys : List DebugInfoFixup) → In p xs → In p (xs ++ ys)
 in-left p [] ys h = absurd h
 in-left p (x ∷ xs) ys (inl e) = inl e
 in-left p (x ∷ xs) ys (inr h) = inr (in-left p xs ys h)
 
-pub in-right : (p : Placeholder) (xs ys : List Placeholder) → In p ys → In p (xs ++ ys)
+pub in-right : (p : DebugInfoFixup) (xs ys : List DebugInfoFixup) → In p ys → In p (xs ++ ys)
 in-right p [] ys h = h
 in-right p (x ∷ xs) ys h = inr (in-right p xs ys h)
 
 -- a placeholder lies inside so many bytes from an offset on
-pub record Inside (at size : ℕ) (p : Placeholder) : Type 0 where
+pub record Inside (at size : ℕ) (p : DebugInfoFixup) : Type 0 where
   pub from : at ≤ p .offset
   pub to : p .offset + p .width ≤ at + size
 
-pub inside : (at : ℕ) (ts : Tokens) (p : Placeholder) → In p (references at ts) → Inside at (sizeOf ts) p
+pub inside : (at : ℕ) (ts : Tokens) (p : DebugInfoFixup) → In p (references at ts) → Inside at (sizeOf ts) p
 unfolding references sizeOf
 inside at done p h = absurd h
 inside at (code c ts) p h = let i = inside (at + 1) ts p h in record { from = omega arith; to = omega arith }
@@ -48,8 +49,8 @@ inside at (nested inner ts) p h =
       | inr m ↦ let i = inside (k + sizeOf inner) ts p m in record { from = omega arith; to = omega arith }
     ]
 inside at (reference width unit entry ts) p (inl e) =
-    let a : p .offset ≡ at = sym (ap (λ (q : Placeholder). q .offset) e) in
-    let b : p .width ≡ width = sym (ap (λ (q : Placeholder). q .width) e) in
+    let a : p .offset ≡ at = sym (ap (λ (q : DebugInfoFixup). q .offset) e) in
+    let b : p .width ≡ width = sym (ap (λ (q : DebugInfoFixup). q .width) e) in
     record { from = omega arith; to = omega arith }
 inside at (reference width unit entry ts) p (inr h) = let i = inside (at + width) ts p h in record { from = omega arith; to = omega arith }
 inside at (raw bytes ts) p h = let i = inside (at + length bytes) ts p h in record { from = omega arith; to = omega arith }
@@ -83,7 +84,7 @@ unfolding put
 put-here value at n = rw (eq-eqb at at refl)
 
 -- a placeholder of wide tokens has a byte at least
-pub wide-in : (at : ℕ) (ts : Tokens) (p : Placeholder) → Wide ts → In p (references at ts) → 0 < p .width
+pub wide-in : (at : ℕ) (ts : Tokens) (p : DebugInfoFixup) → Wide ts → In p (references at ts) → 0 < p .width
 unfolding references
 wide-in at done p w h = absurd h
 wide-in at (code c ts) p w h = wide-in (at + 1) ts p w h
@@ -97,6 +98,6 @@ wide-in at (nested inner ts) p w h =
     let k : ℕ = at + length (uleb (sizeOf inner)) in
     elim (in-append p (references k inner) (references (k + sizeOf inner) ts) h)
     [ inl m ↦ wide-in k inner p (w .0) m | inr m ↦ wide-in (k + sizeOf inner) ts p (w .1) m ]
-wide-in at (reference width unit entry ts) p w (inl e) = subst (λ (q : Placeholder). 0 < q .width) e (w .0)
+wide-in at (reference width unit entry ts) p w (inl e) = subst (λ (q : DebugInfoFixup). 0 < q .width) e (w .0)
 wide-in at (reference width unit entry ts) p w (inr h) = wide-in (at + width) ts p (w .1) h
 wide-in at (raw bytes ts) p w h = wide-in (at + length bytes) ts p w h

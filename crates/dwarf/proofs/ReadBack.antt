@@ -17,7 +17,8 @@ use Rattle.dwarf.specs.Tokens.{Tokens, done, code, unsigned, signed, fixed, di
 use Rattle.dwarf.specs.Codes.{Kind, operands}
 use Rattle.dwarf.specs.Bytes.{bytesOf, sizeOf}
 use Rattle.dwarf.specs.Reading.{readCounted, readShort, reading, read}
-use Rattle.dwarf.specs.References.{Placeholder, references, shown, In}
+use Rattle.common.specs.declared.fixup.DebugInfoFixup.{DebugInfoFixup}
+use Rattle.dwarf.specs.References.{references, shown, In}
 use Rattle.dwarf.specs.WellFormed.{WellFormed, at-end, at-code, at-unsigned, at-signed, at-fixed, at-displacement, at-block, at-short, at-nested, at-reference, NumbersFit, TokensReadBack}
 use Rattle.dwarf.proofs.Uleb.{uleb-reads-back, uleb-nonempty}
 use Rattle.dwarf.proofs.Sleb.{sleb-reads-back, sleb-nonempty}

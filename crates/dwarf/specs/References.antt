@@ -6,20 +6,14 @@ use mathlib.Core.Logic.{_⊎_}
 use Prim.Native.Nat.{ℕ, _+_, _<_}
 use lib.Dec.{eqb}
 use lib.ListN.{length, take, drop}
+use Rattle.common.specs.declared.fixup.DebugInfoFixup.{DebugInfoFixup}
 use Rattle.dwarf.specs.Leb.{uleb, sleb}
 use Rattle.dwarf.specs.Fixed.{fixedBytes}
 use Rattle.dwarf.specs.Tokens.{Tokens, done, code, unsigned, signed, fixed, displacement, block, short, nested, reference, raw}
 use Rattle.dwarf.specs.Bytes.{bytesOf, sizeOf}
 
--- a reference that stands at an offset in a width of bytes, and the entry that it names
-pub record Placeholder : Type 0 where
-  pub offset : ℕ
-  pub width : ℕ
-  pub unit : ℕ
-  pub entry : ℕ
-
 -- the references in tokens that begin at an offset, by rising offset
-unfoldable pub references : ℕ → Tokens → List Placeholder
+unfoldable pub references : ℕ → Tokens → List DebugInfoFixup
 references at done = []
 references at (code c ts) = references (at + 1) ts
 references at (unsigned n ts) = references (at + length (uleb n)) ts
@@ -63,7 +57,7 @@ Wide (reference width unit entry ts) = (0 < width) × Wide ts
 Wide (raw bytes ts) = Wide ts
 
 -- a placeholder is one of those listed
-abbrev pub In : Placeholder → List Placeholder → Type 0
+abbrev pub In : DebugInfoFixup → List DebugInfoFixup → Type 0
 In p [] = ⊥
 In p (q ∷ qs) = (q ≡ p) ⊎ In p qs
 
@@ -82,7 +76,7 @@ SizesHold = (big : Bool) (value : ℕ → ℕ) (at : ℕ) (ts : Tokens)
 
 -- a number written over a reference gives the bytes of the same tokens with that number in the reference's place, and nothing else changes
 abbrev pub Patches : Type 0
-Patches = (big : Bool) (value : ℕ → ℕ) (before after : List ℕ) (ts : Tokens) (p : Placeholder) (n : ℕ)
+Patches = (big : Bool) (value : ℕ → ℕ) (before after : List ℕ) (ts : Tokens) (p : DebugInfoFixup) (n : ℕ)
     → Wide ts → In p (references (length before) ts)
     → patched (before ++ (bytesOf big (shown value (length before) ts) ++ after)) (p .offset) (fixedBytes big (p .width) n)
     ≡ before ++ (bytesOf big (shown (put value (p .offset) n) (length before) ts) ++ after)

@@ -13,7 +13,8 @@ use Rattle.dwarf.specs.Fixed.{isWidth}
 use Rattle.dwarf.specs.Tokens.{Tokens, done, code, unsigned, signed, fixed, displacement, block, short, nested, reference}
 use Rattle.dwarf.specs.Codes.{Kind, unsigned-number, signed-number, number-of, branch-displacement, counted-data, short-data, nested-operations, operands}
 use Rattle.dwarf.specs.Bytes.{bytesOf, sizeOf}
-use Rattle.dwarf.specs.References.{Placeholder, references, shown, In}
+use Rattle.common.specs.declared.fixup.DebugInfoFixup.{DebugInfoFixup}
+use Rattle.dwarf.specs.References.{references, shown, In}
 use Rattle.dwarf.specs.Reading.{read}
 
 -- tokens that begin with operands of these kinds, and then go on with codes and their operands to the end
@@ -36,8 +37,8 @@ pub data WellFormed (e : Encoding) : List Kind → Tokens → Type 0 where
       → WellFormed e (number-of width ∷ kinds) (reference width unit entry ts)
 
 -- the number for each reference fits its width
-abbrev pub NumbersFit : (ℕ → ℕ) → List Placeholder → Type 0
-NumbersFit value places = (p : Placeholder) → In p places → value (p .offset) < 256 ^ p .width
+abbrev pub NumbersFit : (ℕ → ℕ) → List DebugInfoFixup → Type 0
+NumbersFit value places = (p : DebugInfoFixup) → In p places → value (p .offset) < 256 ^ p .width
 
 -- well-formed tokens read back, at any nesting, as they are with the numbers that stand for their references
 abbrev pub TokensReadBack : Type 0
