@@ -7,3 +7,6 @@ pub mod Placeholders
 pub mod Patching
 pub mod ReadBack
 pub mod Joining
+pub mod ReadingExamples
+pub mod Consumed
+pub mod Steps

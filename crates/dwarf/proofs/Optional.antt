@@ -26,3 +26,13 @@ got-same {A} bytes e = ap (λ (x : A). got x bytes) e
 pub passed : {A : Type 0} (test : Bool) (a b : A) → cond test (Some a) None ≡ Some b → a ≡ b
 passed true a b e = cc
 passed false a b e = absurd (let z : _≡_ {A = ℕ} 0 1 = cc in omega arith)
+
+-- the same second answer wherever there is a first
+pub andThen-same : {A B : Type 0} (first : Option A) (f g : A → Option B) → ((a : A) → first ≡ Some a → f a ≡ g a) → andThen first f ≡ andThen first g
+andThen-same None f g same = refl
+andThen-same (Some a) f g same = same a refl
+
+-- the same answer wherever a test passes
+pub cond-same : {A : Type 0} (test : Bool) (x y z : A) → (test ≡ true → x ≡ y) → cond test x z ≡ cond test y z
+cond-same true x y z same = same refl
+cond-same false x y z same = refl

@@ -7,3 +7,4 @@ pub mod Bytes
 pub mod Reading
 pub mod References
 pub mod WellFormed
+pub mod Examples

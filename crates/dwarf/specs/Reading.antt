@@ -1,7 +1,8 @@
 -- The reading of encoded operations. It knows the byte order and the unit's encoding, and nothing of what wrote the bytes.
+use mathlib.Core.Path.{_≡_}
 use mathlib.Core.Bool.{Bool, cond}
 use mathlib.Core.List.{List, [], _∷_}
-use Prim.Native.Nat.{ℕ, zero, suc}
+use Prim.Native.Nat.{ℕ, zero, suc, _<_}
 use lib.ListN.{length}
 use Rattle.std.specs.declared.option.Option.{Option}
 use Rattle.std.specs.declared.option.Option.the-variants.{None, Some}
@@ -44,6 +45,10 @@ reading (suc steps) big e (nested-operations ∷ kinds) bytes =
     andThen (readCounted bytes) (λ g. andThen (reading steps big e [] (g .value))
     (λ inner. andThen (reading steps big e kinds (g .rest)) (λ ts. Some (nested inner ts))))
 
--- the operations that the bytes are; a step takes a byte at least, so the steps suffice
+-- the operations that the bytes are: each step but the last takes a byte at least
 unfoldable pub read : Bool → Encoding → List ℕ → Option Tokens
 read big e bytes = reading (suc (length bytes)) big e [] bytes
+
+-- more steps change nothing: no reading is missing for want of steps
+abbrev pub StepsSuffice : Type 0
+StepsSuffice = (big : Bool) (e : Encoding) (bytes : List ℕ) (steps : ℕ) → length bytes < steps → reading steps big e [] bytes ≡ read big e bytes

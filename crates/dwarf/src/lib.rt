@@ -2,7 +2,9 @@
 //!
 //! The definitions stand in `specs/`. Each function here has a theorem as its contract, and does nothing when it runs.
 
+ghost use Rattle.dwarf.specs.Examples.{ExamplesRead};
 ghost use Rattle.dwarf.specs.Fixed.{FixedReadsBack};
+ghost use Rattle.dwarf.specs.Reading.{StepsSuffice};
 ghost use Rattle.dwarf.specs.References.{SizesHold, Patches};
 ghost use Rattle.dwarf.specs.WellFormed.{TokensReadBack};
 
@@ -24,4 +26,14 @@ pub fn patches_hold()
 /// Well-formed operations read back from their bytes, at any nesting.
 pub fn tokens_read_back()
     ensures { λ _. ⌜ TokensReadBack ⌝ }
+{}
+
+/// The examples of location descriptions and of each operation with operands read as DWARF says.
+pub fn examples_read()
+    ensures { λ _. ⌜ ExamplesRead ⌝ }
+{}
+
+/// A reading is never missing for want of steps.
+pub fn steps_suffice()
+    ensures { λ _. ⌜ StepsSuffice ⌝ }
 {}
