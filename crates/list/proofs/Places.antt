@@ -1,17 +1,20 @@
 -- Elements in use, by their places.
 use Prim.Native.Nat.{ℕ, min, _+_, _-_, _<_, _≤_}
-use mathlib.Core.Path.{_≡_, refl, sym, ap, _∙_}
+use mathlib.Core.Path.{_≡_, refl, sym, ap, subst, _∙_}
+use mathlib.Core.Logic.{⊎-elim}
 use mathlib.Core.List.{List, _++_}
 use mathlib.Core.Bool.{cond}
 use lib.ListN.{length, take, drop, getD, set, length-take}
 use lib.Dec.{ltb}
 use lib.Seq.{paste}
 use native.Mathlib.Omega.{arith}
+use Rattle.std.specs.Options.{Cases}
+use Rattle.std.specs.declared.option.Option.{Option}
 use Rattle.std.specs.declared.option.Option.the-variants.{Some, None}
 use Rattle.std.proofs.shelf.Lists.{getD-take, getD-drop, length-drop, drop-take}
-use Rattle.std.proofs.shelf.Maps.{nth-read, nth-past}
+use Rattle.std.proofs.shelf.Maps.{nth-read, nth-getD, nth-past}
 use Rattle.std.proofs.shelf.Edits.{paste-more, drop-paste}
-use Rattle.std.proofs.shelf.Tests.{cond-true, lt-ltb}
+use Rattle.std.proofs.shelf.Tests.{cond-true, lt-ltb, cases-lt}
 use Rattle.list.specs.Rows.{itemAt, closed, removed}
 
 module _ {X : Type 0} (xs : List X) where
@@ -20,6 +23,15 @@ module _ {X : Type 0} (xs : List X) where
 
   pub item-out : (len i : ℕ) → min len (length xs) ≤ i → itemAt xs len i ≡ None
   item-out len i h = nth-past (take len xs) i (simp length-take (omega arith))
+
+  -- an element that is read is one in use
+  pub item-some : (len i : ℕ) (d : X) (r : Option X) → r ≡ itemAt xs len i → Cases r (Unit {0}) (λ x. (i < len) × (i < length xs) × (x ≡ getD xs i d))
+  item-some len i d r e = ⊎-elim
+      (λ l. let b = length-take len xs in
+      let h : itemAt xs len i ≡ Some (getD (take len xs) i d) = nth-getD (take len xs) i d l in
+      subst (λ (o : Option X). Cases o (Unit {0}) (λ x. (i < len) × (i < length xs) × (x ≡ getD xs i d))) (sym (e ∙ h)) (omega arith, omega arith, getD-take len xs i d (omega arith)))
+      (λ l. subst (λ (o : Option X). Cases o (Unit {0}) (λ x. (i < len) × (i < length xs) × (x ≡ getD xs i d))) (sym (e ∙ nth-past (take len xs) i l)) tt)
+      (cases-lt i (length (take len xs)))
 
   -- one more element moves down
   pub moved-more : (ys : List X) (at i : ℕ) (x : X) → at + i + 1 < length xs → ys ≡ paste xs at (drop (at + 1) xs) i →

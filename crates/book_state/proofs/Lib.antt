@@ -1,0 +1,12 @@
+pub mod Slices
+pub mod Shapes
+pub mod Pushed
+pub mod Aimed
+pub mod Roots
+pub mod Taken
+pub mod Shut
+pub mod Withdrawn
+pub mod Opened
+pub mod Keeping
+pub mod Recovered
+pub mod Raw
