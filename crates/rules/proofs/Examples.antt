@@ -1,9 +1,20 @@
 -- The worked examples.
 use mathlib.Core.Path.{refl}
 use Rattle.dwarf.specs.Leb.{groups, sgroups}
+use Rattle.rules.specs.Examples.{Forms, Codes, Refusals, Worked}
 use Rattle.rules.specs.Tree.{treeOf}
-use Rattle.rules.specs.Examples.{Worked}
+
+forms : Forms
+unfolding treeOf groups sgroups
+forms = (refl, refl, refl, refl, refl, refl, refl, refl, refl, refl, refl)
+
+codes : Codes
+unfolding treeOf groups sgroups
+codes = (refl, refl, refl, refl, refl, refl, refl, refl, refl, refl, refl, refl, refl, refl, refl, refl, refl, refl, refl, refl, refl, refl)
+
+refusals : Refusals
+unfolding treeOf groups sgroups
+refusals = (refl, refl, refl, refl, refl, refl, refl, refl, refl, refl, refl, refl, refl, refl)
 
 pub worked : Worked
-unfolding treeOf groups sgroups
-worked = (refl, refl, refl, refl, refl, refl, refl, refl, refl, refl, refl, refl, refl, refl, refl, refl, refl, refl, refl, refl, refl, refl, refl, refl, refl, refl)
+worked = (forms, codes, refusals)

@@ -19,7 +19,7 @@ use Rattle.dwarf.specs.Tokens.{Tokens, reference}
 use Rattle.op.specs.declared.operation.DebugInfoRef.{DebugInfoRef}
 use Rattle.op.specs.declared.operation.DebugInfoRef.the-variants.{Symbol, Entry}
 use Rattle.rules.specs.Results.{andThen}
-use Rattle.rules.specs.Scope.{Scope, frame, unit}
+use Rattle.rules.specs.Scope.{Scope, inFrame, inUnit}
 
 -- a code of version 5 and above, and GNU's code for the versions below
 abbrev pub byVersion : Encoding → ℕ → ℕ → ℕ
@@ -41,8 +41,8 @@ shortData bs = cond (leb (length bs) 255) (Ok bs) (Err ValueTooLarge)
 -- a reference to an entry, in front of other operands; symbols, and entries in a frame expression, are refused before the width
 abbrev pub referred : Scope → ℕ → DebugInfoRef → Tokens → Result Tokens Error
 referred s width (Symbol symbol) rest = Err InvalidReference
-referred frame width (Entry owner entry) rest = Err InvalidReference
-referred (unit start offsets) width (Entry owner entry) rest = cond (isWidth width) (Ok (reference width owner entry rest)) (Err (UnsupportedWordSize width))
+referred inFrame width (Entry owner entry) rest = Err InvalidReference
+referred (inUnit start offsets) width (Entry owner entry) rest = cond (isWidth width) (Ok (reference width owner entry rest)) (Err (UnsupportedWordSize width))
 
 -- from -32,768 to 32,767: the numbers that two signed bytes hold
 abbrev pub inTwoBytes : ℤ → Bool

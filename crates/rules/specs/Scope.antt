@@ -10,9 +10,9 @@ use Rattle.common.specs.declared.error.Error.the-variants.{UnsupportedExpressio
 -- Where an expression is written.
 pub data Scope : Type 0 where
   -- in a frame table, which has no entries
-  frame : Scope
+  inFrame : Scope
   -- in a unit: where the unit starts in the section, and the section offset of each entry that is placed
-  unit : ℕ → (ℕ → Option ℕ) → Scope
+  inUnit : ℕ → (ℕ → Option ℕ) → Scope
 
 -- the offset of a place from the start of its unit; an entry that is not placed has none yet
 abbrev pub fromStart : ℕ → Option ℕ → Result ℕ Error
@@ -21,8 +21,8 @@ fromStart start (Some offset) = Ok (offset - start)
 
 -- the offset of an entry from the start of its unit
 abbrev pub baseOf : Scope → ℕ → Result ℕ Error
-baseOf frame entry = Err UnsupportedCfiExpressionReference
-baseOf (unit start offsets) entry = fromStart start (offsets entry)
+baseOf inFrame entry = Err UnsupportedCfiExpressionReference
+baseOf (inUnit start offsets) entry = fromStart start (offsets entry)
 
 -- the offset that stands for a base type: 0 for the generic type
 abbrev pub baseOrGeneric : Scope → Option ℕ → Result ℕ Error

@@ -119,3 +119,7 @@ operationsOf b x = take (x .count) (drop (x .start) (b .operations))
 unfoldable pub treeOf : ℕ → Store → ℕ → Tree
 treeOf zero b n = end
 treeOf (suc levels) b n = rows (treeOf levels b) b (operationsOf b (expressionAt b n))
+
+-- the tree of an expression that nests others at most 16 deep
+abbrev pub expressionTree : Store → ℕ → Tree
+expressionTree b n = treeOf 17 b n
