@@ -1,6 +1,6 @@
 pub mod Results
 pub mod Join
-pub mod References
+pub mod Rows
 pub mod OperationSizes
 pub mod Sizes
 pub mod OperationMarks
