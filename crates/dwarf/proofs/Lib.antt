@@ -10,3 +10,7 @@ pub mod Joining
 pub mod ReadingExamples
 pub mod Consumed
 pub mod Steps
+pub mod Standing
+pub mod Forms
+pub mod Bounds
+pub mod Findings

@@ -27,6 +27,10 @@ pub passed : {A : Type 0} (test : Bool) (a b : A) → cond test (Some a) None �
 passed true a b e = cc
 passed false a b e = absurd (let z : _≡_ {A = ℕ} 0 1 = cc in omega arith)
 
+pub test-passed : {A : Type 0} (test : Bool) (a b : A) → cond test (Some a) None ≡ Some b → test ≡ true
+test-passed true a b e = refl
+test-passed false a b e = absurd (let z : _≡_ {A = ℕ} 0 1 = cc in omega arith)
+
 -- the same second answer wherever there is a first
 pub andThen-same : {A B : Type 0} (first : Option A) (f g : A → Option B) → ((a : A) → first ≡ Some a → f a ≡ g a) → andThen first f ≡ andThen first g
 andThen-same None f g same = refl

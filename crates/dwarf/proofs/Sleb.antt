@@ -40,11 +40,11 @@ pub sgroups-more : (k : ℕ) (z : ℤ) → 64 ≤ magnitude z → sgroups (suc k
 unfolding sgroups
 sgroups-more k z h = cond-false _ _ _ (large-from z h)
 
-read-last : (k b : ℕ) (bytes : List ℕ) → b < 128 → readSgroups (suc k) (b ∷ bytes) ≡ got (signedSeven b) bytes
+pub read-last : (k b : ℕ) (bytes : List ℕ) → b < 128 → readSgroups (suc k) (b ∷ bytes) ≡ got (signedSeven b) bytes
 unfolding readSgroups
 read-last k b bytes h = cond-true _ _ _ (lt-ltb b 128 h)
 
-read-more : (k b : ℕ) (bytes : List ℕ) → 128 ≤ b → readSgroups (suc k) (b ∷ bytes) ≡ andThen (readSgroups k bytes) (λ g. got (withLowSeven (b % 128) (g .value)) (g .rest))
+pub read-more : (k b : ℕ) (bytes : List ℕ) → 128 ≤ b → readSgroups (suc k) (b ∷ bytes) ≡ andThen (readSgroups k bytes) (λ g. got (withLowSeven (b % 128) (g .value)) (g .rest))
 unfolding readSgroups
 read-more k b bytes h = cond-false _ _ _ (le-ltb b 128 h)
 

@@ -23,11 +23,11 @@ pub groups-more : (k n : ℕ) → 128 ≤ n → groups (suc k) n ≡ (n % 128 + 
 unfolding groups
 groups-more k n h = cond-false _ _ _ (le-ltb n 128 h)
 
-read-last : (k b : ℕ) (bytes : List ℕ) → b < 128 → readGroups (suc k) (b ∷ bytes) ≡ got b bytes
+pub read-last : (k b : ℕ) (bytes : List ℕ) → b < 128 → readGroups (suc k) (b ∷ bytes) ≡ got b bytes
 unfolding readGroups
 read-last k b bytes h = cond-true _ _ _ (lt-ltb b 128 h)
 
-read-more : (k b : ℕ) (bytes : List ℕ) → 128 ≤ b → readGroups (suc k) (b ∷ bytes) ≡ andThen (readGroups k bytes) (λ g. got (b % 128 + 128 * g .value) (g .rest))
+pub read-more : (k b : ℕ) (bytes : List ℕ) → 128 ≤ b → readGroups (suc k) (b ∷ bytes) ≡ andThen (readGroups k bytes) (λ g. got (b % 128 + 128 * g .value) (g .rest))
 unfolding readGroups
 read-more k b bytes h = cond-false _ _ _ (le-ltb b 128 h)
 
@@ -112,3 +112,20 @@ groups-most (suc k) n =
 pub uleb-most : (n : ℕ) → length (uleb n) ≤ 10
 unfolding uleb
 uleb-most n = groups-most 9 n
+
+groups-grow : (k m n : ℕ) → m ≤ n → length (groups k m) ≤ length (groups k n)
+unfolding groups
+groups-grow zero m n h = omega arith
+groups-grow (suc k) m n h =
+    elim (cases-lt n 128) [
+      | inl l ↦ let s : m < 128 = omega arith in rw (groups-last (suc k) m s, groups-last (suc k) n l) (omega arith)
+      | inr g ↦ elim (cases-lt m 128) [
+        | inl s ↦ rw (groups-last (suc k) m s, groups-more k n g) (omega arith)
+        | inr b ↦ rw (groups-more k m b, groups-more k n g) (omega (arith, groups-grow k (m / 128) (n / 128) (omega arith)))
+      ]
+    ]
+
+-- a larger number takes no fewer bytes
+pub uleb-grows : (m n : ℕ) → m ≤ n → length (uleb m) ≤ length (uleb n)
+unfolding uleb
+uleb-grows m n h = groups-grow 9 m n h

@@ -2,12 +2,13 @@
 use mathlib.Core.Path.{_≡_}
 use mathlib.Core.Bool.{Bool, true}
 use mathlib.Core.List.{List, [], _∷_}
-use Prim.Native.Nat.{ℕ, _<_, _^_}
+use Prim.Native.Nat.{ℕ, _<_, _≤_, _^_}
 use lib.IntN.{ℤ}
 use lib.ListN.{length}
 use Rattle.std.specs.declared.option.Option.{Option}
 use Rattle.std.specs.declared.option.Option.the-variants.{Some}
 use Rattle.common.specs.declared.encoding.Encoding.{Encoding}
+use Rattle.dwarf.specs.Reader.{AllBytes}
 use Rattle.dwarf.specs.Leb.{magnitude}
 use Rattle.dwarf.specs.Fixed.{isWidth}
 use Rattle.dwarf.specs.Tokens.{Tokens, done, code, unsigned, signed, fixed, displacement, block, short, nested, reference}
@@ -44,3 +45,13 @@ NumbersFit value places = (p : DebugInfoFixup) → In p places → value (p .off
 abbrev pub TokensReadBack : Type 0
 TokensReadBack = (big : Bool) (e : Encoding) (value : ℕ → ℕ) (at : ℕ) (ts : Tokens)
     → WellFormed e [] ts → NumbersFit value (references at ts) → read big e (bytesOf big (shown value at ts)) ≡ Some (shown value at ts)
+
+-- what is read from so many bytes: well-formed tokens without a reference, which take no more bytes
+pub record Found (e : Encoding) (kinds : List Kind) (ts : Tokens) (size : ℕ) : Type 0 where
+  pub formed : WellFormed e kinds ts
+  pub no-references : (at : ℕ) → references at ts ≡ []
+  pub fewest : sizeOf ts ≤ size
+
+-- all that is read is well formed
+abbrev pub ReadWellFormed : Type 0
+ReadWellFormed = (big : Bool) (e : Encoding) (bytes : List ℕ) (ts : Tokens) → AllBytes bytes → read big e bytes ≡ Some ts → Found e [] ts (length bytes)

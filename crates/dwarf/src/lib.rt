@@ -5,8 +5,8 @@
 ghost use Rattle.dwarf.specs.Examples.{ExamplesRead};
 ghost use Rattle.dwarf.specs.Fixed.{FixedReadsBack};
 ghost use Rattle.dwarf.specs.Reading.{StepsSuffice};
-ghost use Rattle.dwarf.specs.References.{SizesHold, Patches};
-ghost use Rattle.dwarf.specs.WellFormed.{TokensReadBack};
+ghost use Rattle.dwarf.specs.References.{SizesHold, ReferencesStand, Patches};
+ghost use Rattle.dwarf.specs.WellFormed.{TokensReadBack, ReadWellFormed};
 
 /// Every number reads back from a fixed width that holds it, in either byte order and whatever follows.
 pub fn fixed_reads_back()
@@ -16,6 +16,11 @@ pub fn fixed_reads_back()
 /// Encoded operations take as many bytes as their size says.
 pub fn sizes_hold()
     ensures { λ _. ⌜ SizesHold ⌝ }
+{}
+
+/// The bytes at a reference's place are those of its number, and zeros where it has none yet.
+pub fn references_stand()
+    ensures { λ _. ⌜ ReferencesStand ⌝ }
 {}
 
 /// A number written over a reference gives the same operations with that number in its place.
@@ -28,12 +33,17 @@ pub fn tokens_read_back()
     ensures { λ _. ⌜ TokensReadBack ⌝ }
 {}
 
-/// The examples of location descriptions and of each operation with operands read as DWARF says.
-pub fn examples_read()
-    ensures { λ _. ⌜ ExamplesRead ⌝ }
+/// All that is read from bytes is well formed, and takes no more bytes when it is written.
+pub fn read_well_formed()
+    ensures { λ _. ⌜ ReadWellFormed ⌝ }
 {}
 
 /// A reading is never missing for want of steps.
 pub fn steps_suffice()
     ensures { λ _. ⌜ StepsSuffice ⌝ }
+{}
+
+/// The examples of location descriptions and of each operation with operands read as DWARF says.
+pub fn examples_read()
+    ensures { λ _. ⌜ ExamplesRead ⌝ }
 {}
