@@ -80,7 +80,9 @@ module _ (big : Bool) (value : ℕ → ℕ) (p : DebugInfoFixup) (n : ℕ) where
       let i = inside (k + sizeOf inner) ts p m in
       let e : shown value k inner ≡ shown value′ k inner = shown-same value value′ k inner (w .0) (λ x b c. apart x (λ y. omega arith)) in
       rw (← e, length-shown big value k inner)
-      (differ-behind (uleb (sizeOf inner)) refl (differ-behind (bytesOf big (shown value k inner)) (rw (length-shown big value k inner)) ih))
+      (differ-behind (uleb (sizeOf inner)) {x = bytesOf big (shown value k inner) ++ bytesOf big (shown value (k + sizeOf inner) ts)}
+      {y = bytesOf big (shown value k inner) ++ bytesOf big (shown value′ (k + sizeOf inner) ts)} refl
+      (differ-behind (bytesOf big (shown value k inner)) (rw (length-shown big value k inner)) ih))
 
   at-reference : (at width unit entry : ℕ) (ts : Tokens) → Wide (reference width unit entry ts)
       → record { offset = at; width = width; unit = unit; entry = entry } ≡ p → Step at (reference width unit entry ts)

@@ -3,7 +3,7 @@ use mathlib.Core.Path.{_≡_}
 use mathlib.Core.Bool.{Bool, cond}
 use mathlib.Core.List.{List, [], _∷_, _++_}
 use mathlib.Core.Logic.{_⊎_}
-use Prim.Native.Nat.{ℕ, _+_, _<_}
+use Prim.Native.Nat.{ℕ, _+_, _-_, _<_}
 use lib.Dec.{eqb}
 use lib.ListN.{length, take, drop}
 use Rattle.common.specs.declared.fixup.DebugInfoFixup.{DebugInfoFixup}
@@ -80,3 +80,9 @@ Patches = (big : Bool) (value : ℕ → ℕ) (before after : List ℕ) (ts : Tok
     → Wide ts → In p (references (length before) ts)
     → patched (before ++ (bytesOf big (shown value (length before) ts) ++ after)) (p .offset) (fixedBytes big (p .width) n)
     ≡ before ++ (bytesOf big (shown (put value (p .offset) n) (length before) ts) ++ after)
+
+-- the bytes at a reference's place are those of its number; with zero for every reference they are the bytes of the tokens themselves
+pub record ReferencesStand : Type 0 where
+  pub as-numbers : (big : Bool) (value : ℕ → ℕ) (at : ℕ) (ts : Tokens) (p : Placeholder) → Wide ts → In p (references at ts)
+      → take (p .width) (drop (p .offset - at) (bytesOf big (shown value at ts))) ≡ fixedBytes big (p .width) (value (p .offset))
+  pub as-zeros : (big : Bool) (at : ℕ) (ts : Tokens) → bytesOf big (shown (λ _. 0) at ts) ≡ bytesOf big ts
