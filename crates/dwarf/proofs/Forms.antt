@@ -9,7 +9,8 @@ use Rattle.dwarf.specs.Leb.{uleb, sleb}
 use Rattle.dwarf.specs.Tokens.{Tokens}
 use Rattle.dwarf.specs.Codes.{Kind}
 use Rattle.dwarf.specs.Bytes.{sizeOf}
-use Rattle.dwarf.specs.References.{Placeholder, references, shown, Wide, In}
+use Rattle.common.specs.declared.fixup.DebugInfoFixup.{DebugInfoFixup}
+use Rattle.dwarf.specs.References.{references, shown, Wide, In}
 use Rattle.dwarf.specs.WellFormed.{WellFormed, at-end, at-code, at-unsigned, at-signed, at-fixed, at-displacement, at-block, at-short, at-nested, at-reference, NumbersFit}
 use Rattle.dwarf.proofs.Widths.{width-positive}
 use Rattle.dwarf.proofs.Sizes.{size-shown}

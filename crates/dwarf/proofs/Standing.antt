@@ -10,7 +10,8 @@ use Rattle.dwarf.specs.Leb.{uleb, sleb}
 use Rattle.dwarf.specs.Fixed.{fixedBytes}
 use Rattle.dwarf.specs.Tokens.{Tokens, done, code, unsigned, signed, fixed, displacement, block, short, nested, reference, raw}
 use Rattle.dwarf.specs.Bytes.{bytesOf, sizeOf}
-use Rattle.dwarf.specs.References.{Placeholder, references, shown, Wide, In, ReferencesStand}
+use Rattle.common.specs.declared.fixup.DebugInfoFixup.{DebugInfoFixup}
+use Rattle.dwarf.specs.References.{references, shown, Wide, In, ReferencesStand}
 use Rattle.dwarf.proofs.Widths.{length-fixed}
 use Rattle.dwarf.proofs.Patching.{Differ, shown-differ}
 

@@ -83,6 +83,6 @@ Patches = (big : Bool) (value : ℕ → ℕ) (before after : List ℕ) (ts : Tok
 
 -- the bytes at a reference's place are those of its number; with zero for every reference they are the bytes of the tokens themselves
 pub record ReferencesStand : Type 0 where
-  pub as-numbers : (big : Bool) (value : ℕ → ℕ) (at : ℕ) (ts : Tokens) (p : Placeholder) → Wide ts → In p (references at ts)
+  pub as-numbers : (big : Bool) (value : ℕ → ℕ) (at : ℕ) (ts : Tokens) (p : DebugInfoFixup) → Wide ts → In p (references at ts)
       → take (p .width) (drop (p .offset - at) (bytesOf big (shown value at ts))) ≡ fixedBytes big (p .width) (value (p .offset))
   pub as-zeros : (big : Bool) (at : ℕ) (ts : Tokens) → bytesOf big (shown (λ _. 0) at ts) ≡ bytesOf big ts
