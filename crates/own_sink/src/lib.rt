@@ -98,7 +98,10 @@ mod tests {
         check_eq(w.write_at(0, &[]), Ok(()))?;
         check_eq(w.write_at(0, &[1]), Err(Error::LengthOutOfBounds))?;
         check_eq(w.write_at(1, &[]), Err(Error::OffsetOutOfBounds))?;
-        check_eq(w.write(&[1, 2, 3, 4, 5, 6, 7, 8, 9, 10, 11, 12, 13, 14, 15]), Ok(()))?;
+        check_eq(
+            w.write(&[1, 2, 3, 4, 5, 6, 7, 8, 9, 10, 11, 12, 13, 14, 15]),
+            Ok(()),
+        )?;
         check_eq(w.room(), 1)?;
         check_eq(w.write(&[16, 17]), Err(Error::NoRoom))?;
         check_eq(w.len(), 15)?;
@@ -135,9 +138,15 @@ mod tests {
         let mut packed = WordSink::new(&mut words);
         check_eq(write_udata(&mut packed, 0x010203, 3), Ok(()))?;
         check_eq(write_udata(&mut packed, 256, 1), Err(Error::ValueTooLarge))?;
-        check_eq(write_udata(&mut packed, 1, 5), Err(Error::UnsupportedWordSize(5)))?;
+        check_eq(
+            write_udata(&mut packed, 1, 5),
+            Err(Error::UnsupportedWordSize(5)),
+        )?;
         check_eq(write_sdata(&mut packed, -2, 2), Ok(()))?;
-        check_eq(write_sdata(&mut packed, -32769, 2), Err(Error::ValueTooLarge))?;
+        check_eq(
+            write_sdata(&mut packed, -32769, 2),
+            Err(Error::ValueTooLarge),
+        )?;
         drop(packed);
         check_eq(words[0], 0x010203ff)?;
         check_eq(words[1], 0xfe000000)?;
@@ -156,8 +165,17 @@ mod tests {
         let wide = write_initial_length(&mut own, Format::Dwarf64)?;
         let narrow = write_initial_length(&mut own, Format::Dwarf32)?;
         check_eq(own.len(), 16)?;
-        check_eq(write_initial_length_at(&mut own, narrow, 0xffff_fff0, Format::Dwarf32), Err(Error::ValueTooLarge))?;
-        check_eq(write_initial_length_at(&mut own, narrow, 0xffff_ffef, Format::Dwarf32), Ok(()))?;
-        check_eq(write_initial_length_at(&mut own, wide, 0xffff_fff0, Format::Dwarf64), Ok(()))
+        check_eq(
+            write_initial_length_at(&mut own, narrow, 0xffff_fff0, Format::Dwarf32),
+            Err(Error::ValueTooLarge),
+        )?;
+        check_eq(
+            write_initial_length_at(&mut own, narrow, 0xffff_ffef, Format::Dwarf32),
+            Ok(()),
+        )?;
+        check_eq(
+            write_initial_length_at(&mut own, wide, 0xffff_fff0, Format::Dwarf64),
+            Ok(()),
+        )
     }
 }

@@ -68,10 +68,11 @@ inner-lead big bs q end (k ∷ ks) h i = i
 inner-lead big bs q (plain o ds t) ks h i = inner-lead big bs q t ks h i
 inner-lead big bs q (nest y t) [] h i = i
 inner-lead big bs q (nest y t) (k ∷ ks) h i =
-    let at : ℕ = q + k .place in
-    (run-leads big bs at y (k .run) (h .0) (i .0),
-     inner-lead big bs at y (inners (marks 0 (k .run))) (held big bs at (marks 0 (k .run)) (run-shown big bs at (k .run) (h .0))) (i .1),
-     inner-lead big bs q t ks (h .1) (i .2))
+    let at : ℕ = q + k .place in (
+      run-leads big bs at y (k .run) (h .0) (i .0),
+      inner-lead big bs at y (inners (marks 0 (k .run))) (held big bs at (marks 0 (k .run)) (run-shown big bs at (k .run) (h .0))) (i .1),
+      inner-lead big bs q t ks (h .1) (i .2),
+    )
 
 -- the branches of a run, nested ones too, wherever it stands
 pub all-lead : (big : Bool) (bs : List ℕ) (q : ℕ) (t : Tree) (a : Tokens) → Stands big bs q a → Aim (places a) (jumps (marks 0 a)) (targets t) →
@@ -83,13 +84,15 @@ pub branches-lead : Branches-lead
 branches-lead e s t a h =
     first-step (sizeTree e s t) (λ size. encodeTree e s (starts e s 0 t) 0 t)
     ((places a ≡ starts e s 0 t)
-      × ((big : Bool) (before after : List ℕ) →
-          Leads big (before ++ (bytesOf big a ++ after)) (length before) t a
-          × Nested big (before ++ (bytesOf big a ++ after)) (length before) t (inners (marks 0 a))))
+    × ((big : Bool) (before after : List ℕ) →
+    Leads big (before ++ (bytesOf big a ++ after)) (length before) t a
+    × Nested big (before ++ (bytesOf big a ++ after)) (length before) t (inners (marks 0 a))))
     a h
     (λ n is k. let l = tree-landed e s (starts e s 0 t) 0 t a k in
-      let own : places a ≡ starts e s 0 t = ap (λ (m : ℕ). firsts (marks 0 a) ++ (m ∷ [])) (omega arith) ∙ l .begins in
-      (own, λ big before after.
-        all-lead big (before ++ (bytesOf big a ++ after)) (length before) t a
-        (record { before = before; after = after; whole = refl; place = refl })
-        (subst (λ ps. Aim ps (jumps (marks 0 a)) (targets t)) (sym own) (l .aims)) (l .holds)))
+    let own : places a ≡ starts e s 0 t = ap (λ (m : ℕ). firsts (marks 0 a) ++ (m ∷ [])) (omega arith) ∙ l .begins in (
+      own,
+      λ big before after.
+          all-lead big (before ++ (bytesOf big a ++ after)) (length before) t a
+          (record { before = before; after = after; whole = refl; place = refl })
+          (subst (λ ps. Aim ps (jumps (marks 0 a)) (targets t)) (sym own) (l .aims)) (l .holds),
+    ))

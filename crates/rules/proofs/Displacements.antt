@@ -70,11 +70,12 @@ module _ (big : Bool) (bs : List ℕ) (q : ℕ) where
   followed : (p n : ℕ) (front : List ℕ) (before after : List ℕ) (r : Tokens) → length front ≡ n → length before ≡ q + p →
       bs ≡ before ++ ((front ++ bytesOf big r) ++ after) → Stands big bs (q + (p + n)) r
   followed p n front before after r f l e =
-      record
-        { before = before ++ front
-        ; after = after
-        ; whole = e ∙ ap (λ (xs : List ℕ). before ++ xs) (append-assoc front (bytesOf big r) after) ∙ sym (append-assoc before front (bytesOf big r ++ after))
-        ; place = let k = length-append before front in omega arith }
+      record {
+        before = before ++ front;
+        after = after;
+        whole = e ∙ ap (λ (xs : List ℕ). before ++ xs) (append-assoc front (bytesOf big r) after) ∙ sym (append-assoc before front (bytesOf big r ++ after));
+        place = let k = length-append before front in omega arith;
+      }
 
   pub marks-shown : (p : ℕ) (a : Tokens) → Stands big bs (q + p) a → AllShown big bs q (marks p a)
   marks-shown p done s = tt
@@ -86,28 +87,31 @@ module _ (big : Bool) (bs : List ℕ) (q : ℕ) where
   marks-shown p (fixed width n r) s =
       marks-shown (p + width) r (followed p width (fixedBytes big width n) (s .before) (s .after) r (length-fixed big width n) (s .place) (s .whole))
   marks-shown p (displacement z r) s =
-      let front : List ℕ = fixedBytes big 2 (sixteenBits z) in
-      ((λ fits. ap (λ (xs : List ℕ). signedAt big xs (q + p)) (s .whole ∙ ap (λ (xs : List ℕ). s .before ++ xs) (append-assoc front (bytesOf big r) (s .after)))
-         ∙ displacement-back big z (s .before) (bytesOf big r ++ s .after) (q + p) fits (s .place)),
-       marks-shown (p + 2) r (followed p 2 front (s .before) (s .after) r (length-fixed big 2 (sixteenBits z)) (s .place) (s .whole)))
+      let front : List ℕ = fixedBytes big 2 (sixteenBits z) in (
+        (λ fits. ap (λ (xs : List ℕ). signedAt big xs (q + p)) (s .whole ∙ ap (λ (xs : List ℕ). s .before ++ xs) (append-assoc front (bytesOf big r) (s .after)))
+            ∙ displacement-back big z (s .before) (bytesOf big r ++ s .after) (q + p) fits (s .place)),
+        marks-shown (p + 2) r (followed p 2 front (s .before) (s .after) r (length-fixed big 2 (sixteenBits z)) (s .place) (s .whole)),
+      )
   marks-shown p (block ds r) s =
       let n : ℕ = length (uleb (length ds)) + length ds in
       marks-shown (p + n) r (followed p n (uleb (length ds) ++ ds) (s .before) (s .after) r (length-append (uleb (length ds)) ds) (s .place)
-        (s .whole ∙ ap (λ (xs : List ℕ). s .before ++ (xs ++ s .after)) (sym (append-assoc (uleb (length ds)) ds (bytesOf big r)))))
+      (s .whole ∙ ap (λ (xs : List ℕ). s .before ++ (xs ++ s .after)) (sym (append-assoc (uleb (length ds)) ds (bytesOf big r)))))
   marks-shown p (short ds r) s =
       marks-shown (p + (1 + length ds)) r (followed p (1 + length ds) (length ds ∷ ds) (s .before) (s .after) r (omega arith) (s .place) (s .whole))
   marks-shown p (nested a r) s =
       let head : List ℕ = uleb (sizeOf a) in
       let n : ℕ = length head + sizeOf a in
       let regrouped : bs ≡ s .before ++ (((head ++ bytesOf big a) ++ bytesOf big r) ++ s .after) =
-            s .whole ∙ ap (λ (xs : List ℕ). s .before ++ (xs ++ s .after)) (sym (append-assoc head (bytesOf big a) (bytesOf big r))) in
-      let size : length (head ++ bytesOf big a) ≡ n = length-append head (bytesOf big a) ∙ ap (λ (k : ℕ). length head + k) (length-bytes big a) in
-      (record
-        { before = s .before ++ head
-        ; after = bytesOf big r ++ s .after
-        ; whole = regrouped ∙ simp append-assoc
-        ; place = let k = length-append (s .before) head in let l = s .place in omega arith },
-       marks-shown (p + n) r (followed p n (head ++ bytesOf big a) (s .before) (s .after) r size (s .place) regrouped))
+      s .whole ∙ ap (λ (xs : List ℕ). s .before ++ (xs ++ s .after)) (sym (append-assoc head (bytesOf big a) (bytesOf big r))) in
+      let size : length (head ++ bytesOf big a) ≡ n = length-append head (bytesOf big a) ∙ ap (λ (k : ℕ). length head + k) (length-bytes big a) in (
+        record {
+          before = s .before ++ head;
+          after = bytesOf big r ++ s .after;
+          whole = regrouped ∙ simp append-assoc;
+          place = let k = length-append (s .before) head in let l = s .place in omega arith;
+        },
+        marks-shown (p + n) r (followed p n (head ++ bytesOf big a) (s .before) (s .after) r size (s .place) regrouped),
+      )
   marks-shown p (reference width owner entry r) s =
       marks-shown (p + width) r (followed p width (replicate width 0) (s .before) (s .after) r (length-replicate width 0) (s .place) (s .whole))
   marks-shown p (raw ds r) s =

@@ -26,9 +26,35 @@ use Rattle.op.specs.declared.operation.DebugInfoRef.{DebugInfoRef}
 use Rattle.op.specs.declared.operation.DebugInfoRef.the-variants.{Symbol, Entry}
 use Rattle.op.specs.declared.operation.Operation.{Operation}
 use Rattle.op.specs.declared.operation.Operation.the-variants.{
-  Raw, Simple, Address, UnsignedConstant, SignedConstant, ConstantType, FrameOffset, RegisterOffset, RegisterType, Pick, Deref, DerefSize, DerefType,
-  PlusConstant, Skip, Branch, Call, CallRef, VariableValue, Convert, Reinterpret, EntryValue, Register, ImplicitValue, ImplicitPointer, Piece, BitPiece,
-  ParameterRef}
+  Raw,
+  Simple,
+  Address,
+  UnsignedConstant,
+  SignedConstant,
+  ConstantType,
+  FrameOffset,
+  RegisterOffset,
+  RegisterType,
+  Pick,
+  Deref,
+  DerefSize,
+  DerefType,
+  PlusConstant,
+  Skip,
+  Branch,
+  Call,
+  CallRef,
+  VariableValue,
+  Convert,
+  Reinterpret,
+  EntryValue,
+  Register,
+  ImplicitValue,
+  ImplicitPointer,
+  Piece,
+  BitPiece,
+  ParameterRef,
+}
 use Rattle.rules.specs.Results.{andThen}
 use Rattle.rules.specs.Encode.{encodeOp}
 use Rattle.rules.specs.Operands.{byVersion, inWidth, addressIn, shortData, referred}
@@ -95,6 +121,7 @@ in-width Q width n m h k = go (isWidth width) refl h
     fits : isWidth width ≡ true → (b : Bool) → ltb n (256 ^ width) ≡ b → cond b (Ok n) (Err ValueTooLarge) ≡ Ok m → Q
     fits w true l g = let e : n ≡ m = value-is (λ x. n ≡ x) n m g refl in let l′ = ltb-true n (256 ^ width) l in k e w (omega arith)
     fits w false l g = not-refused Q ValueTooLarge m g
+
     go : (b : Bool) → isWidth width ≡ b → cond b (cond (ltb n (256 ^ width)) (Ok n) (Err ValueTooLarge)) (Err (UnsupportedWordSize width)) ≡ Ok m → Q
     go true w g = fits w (ltb n (256 ^ width)) refl g
     go false w g = not-refused Q (UnsupportedWordSize width) m g
@@ -123,7 +150,7 @@ module _ (e : Encoding) (s : Scope) (leads : Option ℕ → Result ℤ Error) (P
   address-row (address.Constant n) bs a h =
       last-step (inWidth (e .«address_size») n) (λ m. code 0x03 (fixed (e .«address_size») m done)) (P (Address (address.Constant n)) bs) a h
       (λ m is. in-width (P (Address (address.Constant n)) bs (code 0x03 (fixed (e .«address_size») m done))) (e .«address_size») n m is
-        (λ same w l. rw same (rows .of-address m bs w l)))
+      (λ same w l. rw same (rows .of-address m bs w l)))
   address-row (address.Symbol symbol addend) bs a h = not-refused (P (Address (address.Symbol symbol addend)) bs a) InvalidAddress a h
 
   constant-type-row : (base : ℕ) (d : Data) (bs : List ℕ) (a : Tokens) → encodeOp e s leads (ConstantType base d) bs ≡ Ok a → P (ConstantType base d) bs a
@@ -131,8 +158,8 @@ module _ (e : Encoding) (s : Scope) (leads : Option ℕ → Result ℤ Error) (P
       let c : ℕ = byVersion e 0xa4 0xf4 in
       first-step (baseOf s base) (λ n. andThen (shortData bs) (λ ds. Ok (code c (unsigned n (short ds done))))) (P (ConstantType base d) bs a) a h
       (λ n is k. last-step (shortData bs) (λ ds. code c (unsigned n (short ds done))) (P (ConstantType base d) bs) a k
-        (λ ds id. short-data (P (ConstantType base d) bs (code c (unsigned n (short ds done)))) bs ds id
-          (λ same l. rw (← same) (rows .of-constant-type base n d bs is l))))
+      (λ ds id. short-data (P (ConstantType base d) bs (code c (unsigned n (short ds done)))) bs ds id
+      (λ same l. rw (← same) (rows .of-constant-type base n d bs is l))))
 
   pick-row : (i : ℕ) (bs : List ℕ) → P (Pick i) bs (cond (eqb i 0) (code 0x12 done) (cond (eqb i 1) (code 0x14 done) (code 0x15 (fixed 1 i done))))
   pick-row i bs = go (eqb i 0) refl
@@ -140,6 +167,7 @@ module _ (e : Encoding) (s : Scope) (leads : Option ℕ → Result ℤ Error) (P
       some : (i ≡ 0 → ⊥) → (b : Bool) → eqb i 1 ≡ b → P (Pick i) bs (cond b (code 0x14 done) (code 0x15 (fixed 1 i done)))
       some z true h = rows .of-over i bs (eqb-true i 1 h)
       some z false h = let f = eqb-false i 1 h in rows .of-pick i bs (omega arith)
+
       go : (b : Bool) → eqb i 0 ≡ b → P (Pick i) bs (cond b (code 0x12 done) (cond (eqb i 1) (code 0x14 done) (code 0x15 (fixed 1 i done))))
       go true h = rows .of-dup i bs (eqb-true i 0 h)
       go false h = some (eqb-false i 0 h) (eqb i 1) refl
@@ -150,7 +178,7 @@ module _ (e : Encoding) (s : Scope) (leads : Option ℕ → Result ℤ Error) (P
   entry-row o entry c bs a h k =
       last-step (andThen (baseOf s entry) (inWidth 4)) (λ n. code c (fixed 4 n done)) (P o bs) a h
       (λ n is. first-step (baseOf s entry) (inWidth 4) (P o bs (code c (fixed 4 n done))) n is
-        (λ m im l. in-width (P o bs (code c (fixed 4 n done))) 4 m n l (λ same w fits. k n fits)))
+      (λ m im l. in-width (P o bs (code c (fixed 4 n done))) 4 m n l (λ same w fits. k n fits)))
 
   -- a reference in front of other operands
   reference-row : (o : Operation) (width c : ℕ) (to : DebugInfoRef) (rest : Tokens) (bs : List ℕ) (a : Tokens) →

@@ -71,20 +71,21 @@ module _ (e : Encoding) (s : Scope) where
       first-step (encodeOp e s (displaced hs (p + 3)) o bs) (λ x. andThen (encodeTree e s hs (p + extentOp e s o bs) t) (λ r. Ok (join x r)))
       (sizeTree e s (plain o bs t) ≡ Ok (sizeOf a)) a h
       (λ x is k. last-step (encodeTree e s hs (p + extentOp e s o bs) t) (join x) (λ y. sizeTree e s (plain o bs t) ≡ Ok (sizeOf y)) a k
-        (λ r ir. front-size (sizeOp e s o bs) (sizeTree e s t) (join x) (sizeOf x) r (size-join x)
-          (operation-size e s (displaced hs (p + 3)) o bs x is) (tree-size hs (p + extentOp e s o bs) t r ir)))
+      (λ r ir. front-size (sizeOp e s o bs) (sizeTree e s t) (join x) (sizeOf x) r (size-join x)
+      (operation-size e s (displaced hs (p + 3)) o bs x is) (tree-size hs (p + extentOp e s o bs) t r ir)))
   tree-size hs p (nest y t) a h =
       first-step (encodeTree e s (starts e s 0 y) 0 y)
       (λ x. andThen (encodeTree e s hs (p + extentNested e s y) t) (λ r. Ok (code (byVersion e 0xa3 0xf3) (nested x r))))
       (sizeTree e s (nest y t) ≡ Ok (sizeOf a)) a h
       (λ x is k. last-step (encodeTree e s hs (p + extentNested e s y) t) (λ r. code (byVersion e 0xa3 0xf3) (nested x r))
-        (λ z. sizeTree e s (nest y t) ≡ Ok (sizeOf z)) a k
-        (λ r ir. front-size (nestedSize (sizeTree e s y)) (sizeTree e s t) (λ r. code (byVersion e 0xa3 0xf3) (nested x r))
-          (1 + (length (uleb (sizeOf x)) + sizeOf x)) r (λ z. omega arith)
-          (ap nestedSize (tree-size (starts e s 0 y) 0 y x is)) (tree-size hs (p + extentNested e s y) t r ir)))
+      (λ z. sizeTree e s (nest y t) ≡ Ok (sizeOf z)) a k
+      (λ r ir. front-size (nestedSize (sizeTree e s y)) (sizeTree e s t) (λ r. code (byVersion e 0xa3 0xf3) (nested x r))
+      (1 + (length (uleb (sizeOf x)) + sizeOf x)) r (λ z. omega arith)
+      (ap nestedSize (tree-size (starts e s 0 y) 0 y x is)) (tree-size hs (p + extentNested e s y) t r ir)))
 
 pub sizes-hold : Sizes-hold
-sizes-hold e s t a h =
-    (first-step (sizeTree e s t) (λ size. encodeTree e s (starts e s 0 t) 0 t) (sizeTree e s t ≡ Ok (sizeOf a)) a h
+sizes-hold e s t a h = (
+  first-step (sizeTree e s t) (λ size. encodeTree e s (starts e s 0 t) 0 t) (sizeTree e s t ≡ Ok (sizeOf a)) a h
       (λ n is k. tree-size e s (starts e s 0 t) 0 t a k),
-     λ big. length-bytes big a)
+  λ big. length-bytes big a,
+)

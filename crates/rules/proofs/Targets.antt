@@ -59,13 +59,16 @@ displaced-aims hs after place (Some k) z js ks h e rest = go (ltb k (length hs))
   where
     to : ℕ
     to = getD hs k 0
+
     Goal : ℤ → Type 0
     Goal y = Aim hs (record { place = place; by = y } ∷ js) (Some k ∷ ks)
+
     far : k < length hs → (b : Bool) → inTwoBytes (pos to -ℤ pos after) ≡ b → cond b (Ok (pos to -ℤ pos after)) (Err ValueTooLarge) ≡ Ok z → Goal z
     far below true fits g =
         value-is Goal (pos to -ℤ pos after) z g
         (below, ap (λ (n : ℕ). (pos to -ℤ pos after) +ℤ pos n) e ∙ -ℤ-+ℤ-cancel (pos to) (pos after), fits, rest)
     far below false wide g = not-refused (Goal z) ValueTooLarge z g
+
     go : (b : Bool) → ltb k (length hs) ≡ b → andThen (cond b (Ok to) (Err BadTarget)) (displacementFrom after) ≡ Ok z → Goal z
     go true below g = far (ltb-true k (length hs) below) (inTwoBytes (pos to -ℤ pos after)) refl g
     go false past g = not-refused (Goal z) BadTarget z g
@@ -107,12 +110,13 @@ module _ (e : Encoding) (s : Scope) (hs : List ℕ) (p : ℕ) (t : Tree) (r : To
       let whole : marks p (join x r) ≡ marks p x ++ ms = marks-join p x r ∙ ap (λ (k : ℕ). marks p x ++ marks (p + k) r) (sym size) in
       let g = added hs p (kindOf o) (targets t) x ms (operation-marks e s (displaced hs (p + 3)) o bs x is) in
       let ends : p + sizeOf (join x r) ≡ p + n + sizeOf r = omega (arith, size-join x r) in
-      record
-        { begins =
+      record {
+        begins =
             ap₂ (λ (m : List Mark) (k : ℕ). firsts m ++ (k ∷ [])) whole ends
-            ∙ ap (λ f. f ++ ((p + n + sizeOf r) ∷ [])) (g .begins) ∙ ap (λ f. p ∷ f) (l .begins)
-        ; aims = subst (λ m. Aim hs (jumps m) (targets (plain o bs t))) (sym whole) (g .aims (l .aims))
-        ; holds = subst (Inside t) (sym (ap inners whole ∙ g .holds)) (l .holds) }
+            ∙ ap (λ f. f ++ ((p + n + sizeOf r) ∷ [])) (g .begins) ∙ ap (λ f. p ∷ f) (l .begins);
+        aims = subst (λ m. Aim hs (jumps m) (targets (plain o bs t))) (sym whole) (g .aims (l .aims));
+        holds = subst (Inside t) (sym (ap inners whole ∙ g .holds)) (l .holds);
+      }
 
   -- an entry value in front
   landed-nest : (y : Tree) (c : ℕ) (x : Tokens) → sizeTree e s y ≡ Ok (sizeOf x) → Landed e s (starts e s 0 y) 0 y x →
@@ -123,13 +127,16 @@ module _ (e : Encoding) (s : Scope) (hs : List ℕ) (p : ℕ) (t : Tree) (r : To
       let place : p + 1 + (head + sizeOf x) ≡ p + extentNested e s y = omega arith in
       let ends : p + (1 + (head + (sizeOf x + sizeOf r))) ≡ p + extentNested e s y + sizeOf r = omega arith in
       let own : places x ≡ starts e s 0 y = ap (λ (k : ℕ). firsts (marks 0 x) ++ (k ∷ [])) (omega arith) ∙ within .begins in
-      record
-        { begins =
-            ap₂ (λ (m k : ℕ). p ∷ (firsts (marks m r) ++ (k ∷ []))) place ends ∙ ap (λ f. p ∷ f) (l .begins)
-        ; aims = subst (λ (m : ℕ). Aim hs (jumps (marks m r)) (targets t)) (sym place) (l .aims)
-        ; holds =
-            (subst (λ f. Aim f (jumps (marks 0 x)) (targets y)) (sym own) (within .aims), within .holds,
-             subst (λ (m : ℕ). Inside t (inners (marks m r))) (sym place) (l .holds)) }
+      record {
+        begins =
+            ap₂ (λ (m k : ℕ). p ∷ (firsts (marks m r) ++ (k ∷ []))) place ends ∙ ap (λ f. p ∷ f) (l .begins);
+        aims = subst (λ (m : ℕ). Aim hs (jumps (marks m r)) (targets t)) (sym place) (l .aims);
+        holds = (
+          subst (λ f. Aim f (jumps (marks 0 x)) (targets y)) (sym own) (within .aims),
+          within .holds,
+          subst (λ (m : ℕ). Inside t (inners (marks m r))) (sym place) (l .holds),
+        );
+      }
 
 pub tree-landed : (e : Encoding) (s : Scope) (hs : List ℕ) (p : ℕ) (t : Tree) (a : Tokens) → encodeTree e s hs p t ≡ Ok a → Landed e s hs p t a
 tree-landed e s hs p end a h =
@@ -138,11 +145,11 @@ tree-landed e s hs p (plain o bs t) a h =
     first-step (encodeOp e s (displaced hs (p + 3)) o bs) (λ x. andThen (encodeTree e s hs (p + extentOp e s o bs) t) (λ r. Ok (join x r)))
     (Landed e s hs p (plain o bs t) a) a h
     (λ x is k. last-step (encodeTree e s hs (p + extentOp e s o bs) t) (join x) (Landed e s hs p (plain o bs t)) a k
-      (λ r ir. landed-plain e s hs p t r o bs x is (tree-landed e s hs (p + extentOp e s o bs) t r ir)))
+    (λ r ir. landed-plain e s hs p t r o bs x is (tree-landed e s hs (p + extentOp e s o bs) t r ir)))
 tree-landed e s hs p (nest y t) a h =
     first-step (encodeTree e s (starts e s 0 y) 0 y)
     (λ x. andThen (encodeTree e s hs (p + extentNested e s y) t) (λ r. Ok (code (byVersion e 0xa3 0xf3) (nested x r))))
     (Landed e s hs p (nest y t) a) a h
     (λ x is k. last-step (encodeTree e s hs (p + extentNested e s y) t) (λ r. code (byVersion e 0xa3 0xf3) (nested x r)) (Landed e s hs p (nest y t)) a k
-      (λ r ir. landed-nest e s hs p t r y (byVersion e 0xa3 0xf3) x (tree-size e s (starts e s 0 y) 0 y x is)
-        (tree-landed e s (starts e s 0 y) 0 y x is) (tree-landed e s hs (p + extentNested e s y) t r ir)))
+    (λ r ir. landed-nest e s hs p t r y (byVersion e 0xa3 0xf3) x (tree-size e s (starts e s 0 y) 0 y x is)
+    (tree-landed e s (starts e s 0 y) 0 y x is) (tree-landed e s hs (p + extentNested e s y) t r ir)))

@@ -25,9 +25,35 @@ use Rattle.common.specs.declared.error.Error.the-variants.{
 use Rattle.op.specs.declared.operation.DebugInfoRef.the-variants as debug
 use Rattle.op.specs.declared.operation.Operation.{Operation}
 use Rattle.op.specs.declared.operation.Operation.the-variants.{
-  Raw, Simple, Address, UnsignedConstant, SignedConstant, ConstantType, FrameOffset, RegisterOffset, RegisterType, Pick, Deref, DerefSize, DerefType,
-  PlusConstant, Skip, Branch, Call, CallRef, VariableValue, Convert, Reinterpret, EntryValue, Register, ImplicitValue, ImplicitPointer, Piece, BitPiece,
-  ParameterRef}
+  Raw,
+  Simple,
+  Address,
+  UnsignedConstant,
+  SignedConstant,
+  ConstantType,
+  FrameOffset,
+  RegisterOffset,
+  RegisterType,
+  Pick,
+  Deref,
+  DerefSize,
+  DerefType,
+  PlusConstant,
+  Skip,
+  Branch,
+  Call,
+  CallRef,
+  VariableValue,
+  Convert,
+  Reinterpret,
+  EntryValue,
+  Register,
+  ImplicitValue,
+  ImplicitPointer,
+  Piece,
+  BitPiece,
+  ParameterRef,
+}
 use Rattle.rules.specs.Results.{andThen}
 use Rattle.rules.specs.Bytes.{bytesOf}
 use Rattle.rules.specs.Encode.{encode}
@@ -65,10 +91,11 @@ register n = record { 0 = n }
 
 -- one data byte 07; expression 0 calls entry 5 of unit 2; expression 1 is its entry value, then a stack value; expression 2 is a typed constant
 abbrev pub store : Store
-store = record
-  { operations = CallRef (debug.Entry 2 5) ∷ EntryValue 0 ∷ Simple (record { 0 = 0x9f }) ∷ ConstantType 3 (record { start = 0; len = 1 }) ∷ []
-  ; bytes = 0x07 ∷ []
-  ; expressions = record { start = 0; count = 1 } ∷ record { start = 1; count = 2 } ∷ record { start = 3; count = 1 } ∷ [] }
+store = record {
+  operations = CallRef (debug.Entry 2 5) ∷ EntryValue 0 ∷ Simple (record { 0 = 0x9f }) ∷ ConstantType 3 (record { start = 0; len = 1 }) ∷ [];
+  bytes = 0x07 ∷ [];
+  expressions = record { start = 0; count = 1 } ∷ record { start = 1; count = 2 } ∷ record { start = 3; count = 1 } ∷ [];
+}
 
 -- codes of their own, branches, bases and references
 abbrev pub Forms : Type 0

@@ -1,7 +1,7 @@
 //! A sink over a lent table of bytes.
 
 ghost use mathlib.Core.Path.{_≡_};
-ghost use Prim.Native.Nat.{ℕ};
+ghost use Prim.Native.Nat.{ℕ, _≤_, min};
 ghost use denote.Ref.{now as held, name};
 ghost use lib.ListN.{length, take};
 ghost use Rattle.common.specs.Orders.{bigOf};
@@ -34,6 +34,14 @@ impl<'a> BufferSink<'a> {
             len: 0,
             endian,
         }
+    }
+
+    /// How many bytes of the table are written.
+    fn used(&self) -> usize
+        ensures value { λ r. ⌜ r ≡ length (take (min (now (self .entry) .len) 2147483647) (now (now (self .entry) .table))) ⌝ }
+        ensures bound { λ r. ⌜ r ≤ min (length (now (now (self .entry) .table))) 2147483647 ⌝ }
+    {
+        self.len.min(self.table.len()).min(MOST)
     }
 
     /// The byte at an offset, if one was written there.
@@ -73,7 +81,7 @@ pub impl<'a> Writer for BufferSink<'a> as BufferWriter {
     }
 
     fn len(&self) -> usize {
-        self.len.min(self.table.len()).min(MOST)
+        self.used()
     }
 
     fn room(&self) -> usize {

@@ -2,9 +2,9 @@
 
 ghost use mathlib.Core.Bool.{true};
 ghost use mathlib.Core.Path.{_≡_};
-ghost use Prim.Native.Nat.{ℕ, _+_, _*_, _≤_, _<_};
+ghost use Prim.Native.Nat.{ℕ, _+_, _*_, _≤_, _<_, min};
 ghost use denote.Ref.{now as held, name};
-ghost use lib.ListN.{length, set, getD};
+ghost use lib.ListN.{length, set, getD, take};
 ghost use Rattle.writer.specs.Meaning.{replaced};
 ghost use Rattle.sinks.specs.Lent.{lent, made, under, byteAt};
 ghost use Rattle.sinks.specs.Words.{spread};
@@ -64,6 +64,22 @@ impl<'a> WordSink<'a> {
         WordSink { table, len: 0 }
     }
 
+    /// How many bytes the words in use hold.
+    fn capacity(&self) -> usize
+        ensures value { λ r. ⌜ r ≡ min (length (spread (now (now (self .entry) .table)))) 2147483644 ⌝ }
+        ensures words { λ r. ⌜ r ≤ 4 * length (now (now (self .entry) .table)) ⌝ }
+    {
+        self.table.len().min(MOST_WORDS) * 4
+    }
+
+    /// How many bytes of the table are written.
+    fn used(&self) -> usize
+        ensures value { λ r. ⌜ r ≡ length (take (min (now (self .entry) .len) 2147483644) (spread (now (now (self .entry) .table)))) ⌝ }
+        ensures bound { λ r. ⌜ r ≤ min (length (spread (now (now (self .entry) .table)))) 2147483644 ⌝ }
+    {
+        self.len.min(self.capacity())
+    }
+
     /// The byte at an offset, if one was written there.
     pub fn byte_at(&self, offset: usize) -> Option<u8>
         ensures { λ r. ⌜ r ≡ byteAt (lent (spread (now (now (self .entry) .table))) 2147483644 (now (self .entry) .len) true) offset ⌝ }
@@ -97,11 +113,11 @@ pub impl<'a> Writer for WordSink<'a> as WordWriter {
     }
 
     fn len(&self) -> usize {
-        self.len.min(self.table.len().min(MOST_WORDS) * 4)
+        self.used()
     }
 
     fn room(&self) -> usize {
-        self.table.len().min(MOST_WORDS) * 4 - self.len()
+        self.capacity() - self.len()
     }
 
     fn write(&mut self, bytes: &[u8]) -> Result<(), Error> {
