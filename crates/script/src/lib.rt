@@ -1,0 +1,4 @@
+//! The link script: its text, its commands, and a run of it.
+
+pub mod number;
+pub mod text;
