@@ -1,5 +1,9 @@
 //! The link script: its text, its commands, and a run of it.
 
+pub mod command;
+pub mod fault;
 pub mod hex;
 pub mod number;
+pub mod operand;
 pub mod text;
+pub mod verb;
