@@ -1,5 +1,6 @@
+pub mod Counts
 pub mod Numerals
 pub mod Pairs
 pub mod Prefixes
 pub mod Splitting
-pub mod Counts
+pub mod Histories

@@ -4,3 +4,5 @@ pub mod Bytes
 pub mod Operands
 pub mod Verbs
 pub mod Commands
+pub mod Stages
+pub mod Items

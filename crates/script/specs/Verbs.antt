@@ -6,6 +6,8 @@ use lib.Chars.{codes}
 use Rattle.std.specs.declared.option.Option.{Option}
 use Rattle.std.specs.declared.option.Option.the-variants.{Some, None}
 use Rattle.std.specs.shelf.Text.{sameBytes}
+use Rattle.script.specs.declared.verb.Part.{Part}
+use Rattle.script.specs.declared.verb.Part.the-variants as part
 use Rattle.script.specs.declared.verb.Verb.{Verb}
 use Rattle.script.specs.declared.verb.Verb.the-variants.{New, Sink, Book, Hold, Append, Dump}
 
@@ -17,6 +19,15 @@ wordFor Book = codes "book"
 wordFor Hold = codes "hold"
 wordFor Append = codes "append"
 wordFor Dump = codes "dump"
+
+-- the part of a script that a verb belongs to
+abbrev pub partOf : Verb → Part
+partOf New = part.New
+partOf Sink = part.Sink
+partOf Book = part.Book
+partOf Hold = part.Hold
+partOf Append = part.Call
+partOf Dump = part.Call
 
 -- all verbs
 abbrev pub verbs : List Verb

@@ -2,7 +2,7 @@
 
 ghost use mathlib.Core.Path.{_≡_};
 ghost use Prim.Native.Nat.{ℕ};
-ghost use Rattle.script.specs.Verbs.{wordFor, verbOf};
+ghost use Rattle.script.specs.Verbs.{wordFor, partOf, verbOf};
 use crate::text::is;
 
 /// The first word of a command.
@@ -20,6 +20,21 @@ pub enum Verb {
     Append,
     /// Shows the sink's bytes.
     Dump,
+}
+
+/// The part of a script that a command belongs to.
+#[derive(Clone, Copy)]
+pub enum Part {
+    /// Starts afresh.
+    New,
+    /// Makes the sink.
+    Sink,
+    /// Makes the book.
+    Book,
+    /// Writes the bytes that are held at first.
+    Hold,
+    /// Acts on what was made.
+    Call,
 }
 
 /// All verbs.
@@ -44,6 +59,19 @@ impl Verb {
             Verb::Hold => "hold",
             Verb::Append => "append",
             Verb::Dump => "dump",
+        }
+    }
+
+    /// The part of a script that the verb belongs to.
+    pub fn part(self) -> Part
+        ensures { λ r. ⌜ r ≡ partOf self ⌝ }
+    {
+        match self {
+            Verb::New => Part::New,
+            Verb::Sink => Part::Sink,
+            Verb::Book => Part::Book,
+            Verb::Hold => Part::Hold,
+            Verb::Append | Verb::Dump => Part::Call,
         }
     }
 
