@@ -6,3 +6,5 @@ pub mod Verbs
 pub mod Commands
 pub mod Stages
 pub mod Items
+pub mod Endings
+pub mod Answers
