@@ -10,6 +10,7 @@ ghost use Rattle.book_state.specs.Calls.{begun, rawBegun, added, branched, nest
 ghost use Rattle.book_state.specs.Operations.{shape, entriesFit};
 ghost use Rattle.book_state.specs.State.{fresh, place as placeOf};
 ghost use Rattle.book_state.specs.Whole.{Bare};
+ghost use Rattle.book_tables.specs.View.{view};
 use crate::book::Book;
 use crate::draft::Draft;
 use book_state::expression::Expression;
@@ -42,6 +43,21 @@ impl<'a> Book<'a> {
             drafting: false,
         };
         Book { tables }
+    }
+
+    /// The book's tables, to be read.
+    pub fn tables(&self) -> &Tables<'a>
+        ensures { λ r. ⌜ view (now r) ≡ holds (now (self .entry)) ⌝ }
+    {
+        &self.tables
+    }
+
+    /// The tables, when the book is not needed any more.
+    pub fn into_tables(self) -> Tables<'a>
+        ensures { λ r. ⌜ view r ≡ holds (self .entry) ⌝ }
+    {
+        let Book { tables } = self;
+        tables
     }
 
     /// Opens the book's draft.

@@ -1,7 +1,7 @@
 -- A branch of the draft gets its target.
 use Prim.Native.Nat.{ℕ, max, min, _+_, _-_, _<_, _≤_}
 use mathlib.Core.Path.{_≡_, refl, sym, ap, subst, _∙_}
-use mathlib.Core.Logic.{⊎-elim}
+use mathlib.Core.Logic.{⊎-elim, ∥∥₁-map}
 use mathlib.Core.Bool.{true, false}
 use mathlib.Core.List.{List}
 use lib.ListN.{set, length, length-set}
@@ -15,7 +15,7 @@ use Rattle.book_state.specs.declared.shape.Shape.the-variants.{Branching, Nest
 use Rattle.book_state.specs.Operations.{shape, entriesFit, aimedAt, unset}
 use Rattle.book_state.specs.State.{State, opAt, expressionAt, noOperation, slice, draft, gathered, depthBy, depthOf, dataBy, dataOf, weightBy, weightOf}
 use Rattle.book_state.specs.Calls.{aimed}
-use Rattle.book_state.specs.Whole.{Counted, inOrder, Closed, Drafted, Named, Flagged, Once, Whole}
+use Rattle.book_state.specs.Whole.{Counted, inOrder, Closed, Drafted, Named, Flagged, Used, Once, Whole}
 use Rattle.book_state.proofs.Slices.{slice-behind, slice-same}
 use Rattle.book_state.proofs.Shapes.{unset-is, aimed-shape, aimed-named}
 
@@ -52,6 +52,12 @@ module _ (b t : ℕ) (s : State) (lb : b < s .opCount - s .start) (u : unset (sh
 
   flagged : Flagged (aimed b t s)
   flagged p m h e = ⊎-elim (λ q. absurd (not-nested p m q e)) (λ ne. w .flagged p m h (ap shape (sym (there p ne)) ∙ e)) (cases-eq p (s .start + b))
+
+  used : Used (aimed b t s)
+  used m h = ∥∥₁-map (w .used m h) (λ q.
+      let other : q .0 ≡ s .start + b → ⊥ = λ e.
+      let k : Branching None ≡ Nesting m = sym (unset-is (shape (opAt s (s .start + b))) u) ∙ (sym (ap (λ j. shape (opAt s j)) e) ∙ q .2) in let z : _≡_ {A = ℕ} 0 1 = cc in omega arith in
+      (q .0, q .1, ap shape (there (q .0) other) ∙ q .2))
 
   once : Once (aimed b t s)
   once p q m l h e f = ⊎-elim (λ g. not-nested p m g e)
@@ -96,6 +102,7 @@ module _ (b t : ℕ) (s : State) (lb : b < s .opCount - s .start) (u : unset (sh
         drafted = drafted;
         named = named;
         flagged = flagged;
+        used = used;
         once = once;
         deep = λ k l. w .deep k l ∙ sym (ap (depthOf (s .expressions)) (sealed-aimed k l));
         weighed = λ k l. w .weighed k l ∙ sym (ap (weightOf (s .expressions)) (sealed-aimed k l));

@@ -40,6 +40,7 @@ keep-fresh ops bs = record {
   drafted = λ p l h. absurd (omega arith);
   named = λ p l. absurd (omega arith);
   flagged = λ p m l e. absurd (omega arith);
+  used = λ m h. let e = ap (λ (x : Expression). x .nested) (none-there m) in let z : _≡_ {A = ℕ} 0 1 = cc in absurd (omega arith);
   once = λ p q m l h e f. omega arith;
   deep = λ k l. absurd (omega arith);
   weighed = λ k l. absurd (omega arith);
@@ -72,6 +73,7 @@ module _ (s : State) (o : s .drafting ≡ false) (room : s .sealedCount < 1024) 
     drafted = w .drafted;
     named = w .named;
     flagged = w .flagged;
+    used = w .used;
     once = w .once;
     deep = w .deep;
     weighed = w .weighed;

@@ -1,7 +1,7 @@
 -- An operation and its data are added to a draft.
 use Prim.Native.Nat.{ℕ, max, min, _+_, _-_, _*_, _<_, _≤_}
 use mathlib.Core.Path.{_≡_, refl, sym, ap, subst, _∙_}
-use mathlib.Core.Logic.{⊎-elim}
+use mathlib.Core.Logic.{⊎-elim, ∥∥₁-map}
 use mathlib.Core.Bool.{Bool, true, false}
 use mathlib.Core.List.{List, [], _∷_, _++_}
 use lib.ListN.{getD, set, take, drop, length, length-set, length-take, length-drop, length-append}
@@ -15,7 +15,7 @@ use Rattle.book_state.specs.declared.shape.Shape.the-variants.{Nesting}
 use Rattle.book_state.specs.Operations.{shape, entriesFit}
 use Rattle.book_state.specs.State.{State, opAt, expressionAt, noOperation, slice, draft, depthBy, depthOf, dataBy, dataOf, weightBy, weightOf}
 use Rattle.book_state.specs.Calls.{overwritten, pushed}
-use Rattle.book_state.specs.Whole.{Counted, inOrder, Bare, Ends, Closed, Drafted, Named, Flagged, Once, Deep, Weighed, Whole}
+use Rattle.book_state.specs.Whole.{Counted, inOrder, Bare, Ends, Closed, Drafted, Named, Flagged, Used, Once, Deep, Weighed, Whole}
 use Rattle.book_state.proofs.Slices.{slice-behind, slice-push, sum-push, max-push}
 use Rattle.book_state.proofs.Shapes.{order-more, bare-order, bare-flat, bare-data, bare-depth, bare-nested}
 
@@ -65,6 +65,9 @@ module _ (x : Operation) (bs : List ℕ) (s : State) (o : s .drafting ≡ true) 
       (λ e. ap entriesFit (ap (opAt (pushed x bs s)) e ∙ last) ∙ fine)
       (λ ne. let lt : p < s .opCount = omega arith in ap entriesFit (before p lt) ∙ w .named p lt)
       (cases-eq p (s .opCount))
+
+  pub pushed-used : (m : ℕ) → expressionAt s m .nested ≡ true → ∥ ((p : ℕ) × (p < s .opCount + 1) × (shape (opAt (pushed x bs s) p) ≡ Nesting m)) ∥₁
+  pushed-used m h = ∥∥₁-map (w .used m h) (λ q. let l = q .1 in (q .0, omega arith, ap shape (before (q .0) l) ∙ q .2))
 
   -- the draft, one operation longer
   pub draft-pushed : draft (pushed x bs s) ≡ draft s ++ x ∷ []
@@ -118,6 +121,7 @@ module _ (x : Operation) (bs : List ℕ) (s : State) (o : s .drafting ≡ true) 
     drafted = pushed-drafted x bs s o fits room w (bare-order bs s few (shape x) bare (s .sealedCount) (s .opCount + 1 - s .start));
     named = pushed-named x bs s o fits room w names;
     flagged = flagged;
+    used = pushed-used x bs s o fits room w;
     once = once;
     deep = λ k l. w .deep k l ∙ sym (ap (depthOf (s .expressions)) (sealed-pushed x bs s o fits room w k l));
     weighed = λ k l. w .weighed k l ∙ sym (ap (weightOf (s .expressions)) (sealed-pushed x bs s o fits room w k l));

@@ -1,7 +1,7 @@
 -- To be whole is a fact that has one proof at most, so it is got back where it was only known to hold.
 use Prim.Native.Nat.{ℕ, _<_, _≤_}
 use mathlib.Core.Path.{_≡_, refl}
-use mathlib.Core.Logic.{∥∥₁-elim}
+use mathlib.Core.Logic.{∥∥₁-elim, ∥∥₁-prop}
 use mathlib.Core.Bool.{Bool-set}
 use native.Mathlib.Nat.{ℕ-set}
 use native.Mathlib.Bridge.{le-prop}
@@ -33,6 +33,7 @@ whole-prop s x y = λ i. record {
   drafted = λ p l h. Bool-set _ _ (x .drafted p l h) (y .drafted p l h) i;
   named = λ p l. Bool-set _ _ (x .named p l) (y .named p l) i;
   flagged = λ p m l e. (le-prop (x .flagged p m l e .0) (y .flagged p m l e .0) i, Bool-set _ _ (x .flagged p m l e .1) (y .flagged p m l e .1) i);
+  used = λ m h. ∥∥₁-prop (x .used m h) (y .used m h) i;
   once = λ p q m l h e f. none-prop (x .once p q m l h e f) (y .once p q m l h e f) i;
   deep = λ k l. ℕ-set _ _ (x .deep k l) (y .deep k l) i;
   weighed = λ k l. ℕ-set _ _ (x .weighed k l) (y .weighed k l) i;

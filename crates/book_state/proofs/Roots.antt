@@ -93,6 +93,32 @@ pub other-freed : (xs : List Operation) (es : List Expression) (m : ℕ) → ((i
 other-freed [] es m f = refl
 other-freed (x ∷ xs) es m f = other-freed xs (freedBy (shape x) es) m (λ i l e. f (suc i) (omega arith) e) ∙ other-one (shape x) es m (f zero (omega arith))
 
+-- what is freed is not marked any more
+stays : (h : Shape) (es : List Expression) (m : ℕ) → expressionOf es m .nested ≡ false → expressionOf (freedBy h es) m .nested ≡ false
+stays Plain es m e = e
+stays (Holding d) es m e = e
+stays (Branching t) es m e = e
+stays (Nesting n) es m e = ⊎-elim
+    (λ q. ⊎-elim
+    (λ l. ap (λ j. expressionOf (set es n (unmarked (expressionOf es n))) j .nested) q ∙ ap (λ (x : Expression). x .nested) (getD-set-same es n (unmarked (expressionOf es n)) noExpression l))
+    (λ l. ap (λ v. expressionOf v m .nested) (set-past es n (unmarked (expressionOf es n)) l) ∙ e)
+    (cases-lt n (length es)))
+    (λ ne. ap (λ (x : Expression). x .nested) (getD-set-other es n m (unmarked (expressionOf es n)) noExpression ne) ∙ e)
+    (cases-eq m n)
+
+pub stays-all : (xs : List Operation) (es : List Expression) (m : ℕ) → expressionOf es m .nested ≡ false → expressionOf (freed xs es) m .nested ≡ false
+stays-all [] es m e = e
+stays-all (x ∷ xs) es m e = stays-all xs (freedBy (shape x) es) m (stays (shape x) es m e)
+
+freed-one : (h : Shape) (es : List Expression) (m : ℕ) → m < length es → h ≡ Nesting m → expressionOf (freedBy h es) m .nested ≡ false
+freed-one h es m l e =
+    ap (λ (v : Shape). expressionOf (freedBy v es) m .nested) e ∙ ap (λ (x : Expression). x .nested) (getD-set-same es m (unmarked (expressionOf es m)) noExpression l)
+
+pub freed-all : (xs : List Operation) (es : List Expression) (m i : ℕ) → m < length es → i < length xs → shape (getD xs i noOperation) ≡ Nesting m → expressionOf (freed xs es) m .nested ≡ false
+freed-all [] es m i l h e = absurd (omega arith)
+freed-all (x ∷ xs) es m zero l h e = stays-all xs (freedBy (shape x) es) m (freed-one (shape x) es m l e)
+freed-all (x ∷ xs) es m (suc i) l h e = let n = length-one (shape x) es in freed-all xs (freedBy (shape x) es) m i (omega arith) (omega arith) e
+
 roots-one : (h : Shape) (es : List Expression) (c : ℕ) → c ≤ length es → ((m : ℕ) → h ≡ Nesting m → (m < c) × (expressionOf es m .nested ≡ true)) →
     roots (take c (freedBy h es)) ≡ roots (take c es) + nestedBy es h
 roots-one Plain es c l f = omega arith

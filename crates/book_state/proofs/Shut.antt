@@ -11,10 +11,11 @@ use Rattle.std.proofs.shelf.Tests.{cases-eq}
 use Rattle.op.specs.declared.operation.Operation.{Operation}
 use Rattle.book_state.specs.declared.expression.Expression.{Expression}
 use Rattle.book_state.specs.declared.shape.Shape.{Shape}
+use Rattle.book_state.specs.declared.shape.Shape.the-variants.{Nesting}
 use Rattle.book_state.specs.Operations.{shape, unset, anyUnset}
 use Rattle.book_state.specs.State.{State, opAt, expressionAt, noExpression, noOperation, slice, draft, gathered, depthBy, depthOf, dataOf, weightBy, weightOf}
 use Rattle.book_state.specs.Calls.{newExpression, shut}
-use Rattle.book_state.specs.Whole.{Counted, inOrder, Ends, Closed, Flagged, Deep, Weighed, Whole}
+use Rattle.book_state.specs.Whole.{Counted, inOrder, Ends, Closed, Flagged, Used, Deep, Weighed, Whole}
 use Rattle.book_state.proofs.Slices.{length-slice, slice-at, slice-none, slice-same}
 use Rattle.book_state.proofs.Shapes.{order-more, order-closed, depth-old, weight-old}
 use Rattle.book_state.proofs.Roots.{roots-push}
@@ -88,6 +89,9 @@ module _ (s : State) (o : s .drafting ≡ true) (u : anyUnset (draft s) ≡ fals
   flagged : Flagged (shut s)
   flagged p m l e = let f = w .flagged p m l e in let g = f .0 in (omega arith, ap (λ (x : Expression). x .nested) (old m (λ q. omega arith)) ∙ f .1)
 
+  used : Used (shut s)
+  used = each (λ m e. e .nested ≡ true → ∥ ((p : ℕ) × (p < s .opCount) × (shape (opAt s p) ≡ Nesting m)) ∥₁) (w .used) (λ h. let z : _≡_ {A = ℕ} 0 1 = cc in absurd (omega arith))
+
   -- operations in order measure as before
   module _ (k a n v c : ℕ) (missing : Bool) (lk : k ≤ s .sealedCount) (within : a + n ≤ length (s .operations))
       (order : (i : ℕ) → i < n → inOrder v missing k c (shape (opAt s (a + i))) ≡ true) where
@@ -135,6 +139,7 @@ module _ (s : State) (o : s .drafting ≡ true) (u : anyUnset (draft s) ≡ fals
         drafted = λ p l h. absurd (omega arith);
         named = w .named;
         flagged = flagged;
+        used = used;
         once = w .once;
         deep = deep;
         weighed = weighed;

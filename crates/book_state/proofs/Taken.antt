@@ -16,10 +16,10 @@ use Rattle.book_state.specs.declared.shape.Shape.the-variants.{Nesting}
 use Rattle.book_state.specs.Operations.{shape}
 use Rattle.book_state.specs.State.{State, opAt, expressionOf, expressionAt, noExpression, slice, draft, depthBy, depthOf, dataBy, dataOf, weightBy, weightOf}
 use Rattle.book_state.specs.Calls.{pushed, marked, unmarked, taken}
-use Rattle.book_state.specs.Whole.{Counted, inOrder, roots, Ends, Closed, Drafted, Flagged, Once, Whole}
+use Rattle.book_state.specs.Whole.{Counted, inOrder, roots, Ends, Closed, Drafted, Flagged, Used, Once, Whole}
 use Rattle.book_state.proofs.Slices.{gathered-ext, sum-push, max-push}
 use Rattle.book_state.proofs.Shapes.{depth-kept, weight-kept}
-use Rattle.book_state.proofs.Pushed.{last, before, pushed-counted, pushed-closed, pushed-drafted, pushed-named, draft-pushed, sealed-pushed}
+use Rattle.book_state.proofs.Pushed.{last, before, pushed-counted, pushed-closed, pushed-drafted, pushed-named, pushed-used, draft-pushed, sealed-pushed}
 use Rattle.book_state.proofs.Roots.{roots-mark, kept-mark}
 
 module _ (n : ℕ) (s : State) (o : s .drafting ≡ true) (ln : n < s .sealedCount) (free : expressionAt s n .nested ≡ false) (deep : expressionAt s n .depth < 16)
@@ -70,6 +70,12 @@ module _ (n : ℕ) (s : State) (o : s .drafting ≡ true) (ln : n < s .sealedCou
       (λ ne. let lt : p < s .opCount = omega arith in let f = w .flagged p m lt (ap shape (sym (before (op.EntryValue n) [] s o fits none w p lt)) ∙ e) in (f .0, flag m (f .1)))
       (cases-eq p (s .opCount))
 
+  used : Used (taken n (expressionAt s n) s)
+  used m h = ⊎-elim
+      (λ e. ∣ (s .opCount, omega arith, ap shape (last (op.EntryValue n) [] s o fits none w) ∙ ap Nesting (sym e)) ∣₁)
+      (λ ne. pushed-used (op.EntryValue n) [] s o fits none w m (ap (λ (e : Expression). e .nested) (sym (getD-set-other (s .expressions) n m (marked (expressionAt s n)) noExpression ne)) ∙ h))
+      (cases-eq m n)
+
   unused : (p : ℕ) → p < s .opCount → shape (opAt s p) ≡ Nesting n → ⊥
   unused p l e = let f = w .flagged p n l e .1 in let z : _≡_ {A = Bool} true false = cc in let y : _≡_ {A = ℕ} 0 1 = cc in omega arith
 
@@ -118,6 +124,7 @@ module _ (n : ℕ) (s : State) (o : s .drafting ≡ true) (ln : n < s .sealedCou
     drafted = pushed-drafted (op.EntryValue n) [] s o fits none w (lt-ltb n (s .sealedCount) ln);
     named = pushed-named (op.EntryValue n) [] s o fits none w refl;
     flagged = flagged;
+    used = used;
     once = once;
     deep = λ k l. subst (λ (e : Expression). e .depth ≡ depthOf (set (s .expressions) n (marked (expressionAt s n))) (slice (set (s .operations) (s .opCount) (op.EntryValue n)) (e .start) (e .count))) (sym (kept k))
         (w .deep k l ∙ (sym (ap (depthOf (s .expressions)) (sealed-pushed (op.EntryValue n) [] s o fits none w k l)) ∙ sym (depth-same (slice (set (s .operations) (s .opCount) (op.EntryValue n)) (expressionAt s k .start) (expressionAt s k .count)))));

@@ -1,10 +1,12 @@
 -- A draft is discarded.
 use Prim.Native.Nat.{ℕ, max, _+_, _-_, _*_, _<_, _≤_}
 use mathlib.Core.Path.{_≡_, refl, sym, ap, subst, _∙_}
-use mathlib.Core.Bool.{true, false}
+use mathlib.Core.Logic.{⊎-elim, ∥∥₁-map}
+use mathlib.Core.Bool.{Bool, true, false}
 use mathlib.Core.List.{List, []}
 use lib.ListN.{getD, take, length}
 use native.Mathlib.Omega.{arith}
+use Rattle.std.proofs.shelf.Tests.{cases-lt, cases-bool}
 use Rattle.op.specs.declared.operation.Operation.{Operation}
 use Rattle.book_state.specs.declared.expression.Expression.{Expression}
 use Rattle.book_state.specs.declared.shape.Shape.{Shape}
@@ -12,10 +14,10 @@ use Rattle.book_state.specs.declared.shape.Shape.the-variants.{Nesting}
 use Rattle.book_state.specs.Operations.{shape}
 use Rattle.book_state.specs.State.{State, opAt, expressionOf, expressionAt, noOperation, slice, draft, depthBy, depthOf, dataOf, weightBy, weightOf}
 use Rattle.book_state.specs.Calls.{unmarked, freed, withdrawn}
-use Rattle.book_state.specs.Whole.{Counted, inOrder, roots, Whole}
+use Rattle.book_state.specs.Whole.{Counted, inOrder, roots, Used, Whole}
 use Rattle.book_state.proofs.Slices.{length-slice, slice-at, slice-none, gathered-ext}
 use Rattle.book_state.proofs.Shapes.{depth-kept, weight-kept}
-use Rattle.book_state.proofs.Roots.{kept-freed, length-freed, other-freed, roots-freed, weight-parts}
+use Rattle.book_state.proofs.Roots.{kept-freed, length-freed, other-freed, stays-all, freed-all, roots-freed, weight-parts}
 
 module _ (s : State) (w : Whole s) where
   kept : (k : ℕ) → unmarked (expressionOf (freed (draft s) (s .expressions)) k) ≡ unmarked (expressionAt s k)
@@ -30,6 +32,24 @@ module _ (s : State) (w : Whole s) where
   keep-flag : (p m : ℕ) → p < s .start → shape (opAt s p) ≡ Nesting m → expressionAt (withdrawn s) m ≡ expressionAt s m
   keep-flag p m l e = let c = w .counted in let n = long in
       other-freed (draft s) (s .expressions) m (λ i li f. w .once p (s .start + i) m (omega arith) (omega arith) e (ap shape (sym (in-draft i li)) ∙ f))
+
+  -- what is still marked was marked, and no operation of the draft nests it
+  was-marked : (m : ℕ) → expressionAt (withdrawn s) m .nested ≡ true → expressionAt s m .nested ≡ true
+  was-marked m h = ⊎-elim (λ e. e)
+      (λ e. let f : expressionAt (withdrawn s) m .nested ≡ false = stays-all (draft s) (s .expressions) m e in let z : _≡_ {A = ℕ} 0 1 = cc in absurd (omega arith))
+      (cases-bool (expressionAt s m .nested))
+
+  used : Used (withdrawn s)
+  used m h = ∥∥₁-map (w .used m (was-marked m h)) (λ q. let c = w .counted in let n = long in let l = q .1 in
+      let g = w .flagged (q .0) m l (q .2) .0 in
+      ⊎-elim
+      (λ lt. (q .0, lt, q .2))
+      (λ ge. let i : s .start + (q .0 - s .start) ≡ q .0 = omega arith in
+      let li : q .0 - s .start < length (draft s) = omega arith in
+      let f : expressionAt (withdrawn s) m .nested ≡ false =
+      freed-all (draft s) (s .expressions) m (q .0 - s .start) (omega arith) li (ap shape (in-draft (q .0 - s .start) li ∙ ap (opAt s) i) ∙ q .2) in
+      let z : _≡_ {A = ℕ} 0 1 = cc in absurd (omega arith))
+      (cases-lt (q .0) (s .start)))
 
   freed-roots : roots (take (s .sealedCount) (freed (draft s) (s .expressions))) ≡ 266 * s .start + s .byteStart
   freed-roots = let c = w .counted in let n = long in
@@ -76,6 +96,7 @@ module _ (s : State) (w : Whole s) where
         drafted = λ p l h. absurd (omega arith);
         named = λ p l. w .named p (omega arith);
         flagged = λ p m l e. let f = w .flagged p m (omega arith) e in (f .0, ap (λ (x : Expression). x .nested) (keep-flag p m l e) ∙ f .1);
+        used = used;
         once = λ p q m l h e f. w .once p q m l (omega arith) e f;
         deep = λ k l. subst (λ (e : Expression). e .depth ≡ depthOf (freed (draft s) (s .expressions)) (slice (s .operations) (e .start) (e .count))) (sym (kept k))
             (w .deep k l ∙ sym (depth-same (slice (s .operations) (expressionAt s k .start) (expressionAt s k .count))));

@@ -70,6 +70,10 @@ Named s = (p : ℕ) → p < s .opCount → entriesFit (opAt s p) ≡ true
 abbrev pub Flagged : State → Type 0
 Flagged s = (p m : ℕ) → p < s .opCount → shape (opAt s p) ≡ Nesting m → (m < s .sealedCount) × (expressionAt s m .nested ≡ true)
 
+-- an expression that is known to be nested is one that an entry value holds
+abbrev pub Used : State → Type 0
+Used s = (m : ℕ) → expressionAt s m .nested ≡ true → ∥ ((p : ℕ) × (p < s .opCount) × (shape (opAt s p) ≡ Nesting m)) ∥₁
+
 -- no two entry values hold the same expression
 abbrev pub Once : State → Type 0
 Once s = (p q m : ℕ) → p < q → q < s .opCount → shape (opAt s p) ≡ Nesting m → shape (opAt s q) ≡ Nesting m → ⊥
@@ -97,6 +101,7 @@ pub record Whole (s : State) : Type 0 where
   pub drafted : Drafted s
   pub named : Named s
   pub flagged : Flagged s
+  pub used : Used s
   pub once : Once s
   pub deep : Deep s
   pub weighed : Weighed s
