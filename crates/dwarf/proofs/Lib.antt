@@ -14,3 +14,4 @@ pub mod Standing
 pub mod Forms
 pub mod Bounds
 pub mod Findings
+pub mod Operands

@@ -1,5 +1,5 @@
 -- The codes of operations and the operands that follow each (DWARF 5, sections 2.5, 2.6 and 7.7.1, and the GNU extensions).
-use mathlib.Core.Bool.{cond, _&&_}
+use mathlib.Core.Bool.{Bool, cond, _&&_, _||_}
 use mathlib.Core.List.{List, [], _∷_}
 use Prim.Native.Nat.{ℕ}
 use lib.Dec.{leb, eqb}
@@ -114,11 +114,20 @@ table e =
     ∷ one 0xfd (number-of (wordSize (e .format)) ∷ [])
     ∷ []
 
+-- a code from the first to the last
+abbrev pub within : ℕ → ℕ → ℕ → Bool
+within a z c = leb a c && leb c z
+
 -- the operands in the first of the rows that has the code
 unfoldable pub lookup : List Row → ℕ → Option (List Kind)
 lookup [] c = None
-lookup (r ∷ rows) c = cond (leb (r .first) c && leb c (r .last)) (Some (r .kinds)) (lookup rows c)
+lookup (r ∷ rows) c = cond (within (r .first) (r .last) c) (Some (r .kinds)) (lookup rows c)
 
 -- the operands that follow a code, or none where the code is not known
 unfoldable pub operands : Encoding → ℕ → Option (List Kind)
 operands e c = lookup (table e) c
+
+-- the codes of operations without operands
+abbrev pub isPlain : ℕ → Bool
+isPlain c =
+    within 0x06 0x06 c || (within 0x12 0x14 c || (within 0x16 0x22 c || (within 0x24 0x27 c || (within 0x29 0x2e c || (within 0x30 0x6f c || (within 0x96 0x97 c || (within 0x9b 0x9c c || within 0x9f 0x9f c)))))))
