@@ -15,6 +15,8 @@ use Rattle.dwarf.specs.Tokens.{Tokens, done, code, unsigned, signed, fixed, dis
 use Rattle.rules.specs.Branches.{Mark, first, jump, inner, marks, twoBytes, fromSixteen, signedAt}
 use Rattle.rules.specs.Bytes.{sizeOf, bytesOf, sixteenBits}
 use Rattle.rules.specs.Operands.{inTwoBytes}
+use Rattle.rules.specs.References.{filled}
+use Rattle.rules.proofs.References.{size-filled}
 use Rattle.rules.proofs.Sizes.{length-bytes, length-fixed}
 
 -- sixteen bits hold the number
@@ -48,36 +50,38 @@ pub displacement-back : (big : Bool) (z : ℤ) (before rest : List ℕ) (p : ℕ
 displacement-back big z before rest p h l =
     let b = sixteen-back z h in ap fromSixteen (two-back big (sixteenBits z) before rest p (b .0) l) ∙ b .1
 
--- tokens stand in bytes, so many bytes after a place
-pub record Stands (big : Bool) (bs : List ℕ) (q : ℕ) (a : Tokens) : Type 0 where
+-- tokens stand at a place in bytes, their references filled with some numbers
+pub record Stands (big : Bool) (numbers : ℕ → ℕ) (bs : List ℕ) (q : ℕ) (a : Tokens) : Type 0 where
   pub before : List ℕ
   pub after : List ℕ
-  pub whole : bs ≡ before ++ (bytesOf big a ++ after)
+  pub whole : bs ≡ before ++ (bytesOf big (filled numbers q a) ++ after)
   pub place : length before ≡ q
 
--- what a mark says of the bytes; q is where the run begins
-abbrev pub Shown : Bool → List ℕ → ℕ → Mark → Type 0
-Shown big bs q (first p) = Unit {0}
-Shown big bs q (jump p z) = inTwoBytes z ≡ true → signedAt big bs (q + p) ≡ z
-Shown big bs q (inner p a) = Stands big bs (q + p) a
+module _ (big : Bool) (numbers : ℕ → ℕ) (bs : List ℕ) (q : ℕ) where
+  -- what a mark says of the bytes; q is where the run begins
+  abbrev pub Shown : Mark → Type 0
+  Shown (first p) = Unit {0}
+  Shown (jump p z) = inTwoBytes z ≡ true → signedAt big bs (q + p) ≡ z
+  Shown (inner p a) = Stands big numbers bs (q + p) a
 
-abbrev pub AllShown : Bool → List ℕ → ℕ → List Mark → Type 0
-AllShown big bs q [] = Unit {0}
-AllShown big bs q (m ∷ ms) = Shown big bs q m × AllShown big bs q ms
+  abbrev pub AllShown : List Mark → Type 0
+  AllShown [] = Unit {0}
+  AllShown (m ∷ ms) = Shown m × AllShown ms
 
-module _ (big : Bool) (bs : List ℕ) (q : ℕ) where
   -- the tokens that follow on some bytes
   followed : (p n : ℕ) (front : List ℕ) (before after : List ℕ) (r : Tokens) → length front ≡ n → length before ≡ q + p →
-      bs ≡ before ++ ((front ++ bytesOf big r) ++ after) → Stands big bs (q + (p + n)) r
+      bs ≡ before ++ ((front ++ bytesOf big (filled numbers (q + p + n) r)) ++ after) → Stands big numbers bs (q + (p + n)) r
   followed p n front before after r f l e =
+      let place : q + p + n ≡ q + (p + n) = omega arith in
       record {
         before = before ++ front;
         after = after;
-        whole = e ∙ ap (λ (xs : List ℕ). before ++ xs) (append-assoc front (bytesOf big r) after) ∙ sym (append-assoc before front (bytesOf big r ++ after));
+        whole =
+            e ∙ ap (λ (k : ℕ). before ++ ((front ++ bytesOf big (filled numbers k r)) ++ after)) place ∙ simp append-assoc;
         place = let k = length-append before front in omega arith;
       }
 
-  pub marks-shown : (p : ℕ) (a : Tokens) → Stands big bs (q + p) a → AllShown big bs q (marks p a)
+  pub marks-shown : (p : ℕ) (a : Tokens) → Stands big numbers bs (q + p) a → AllShown (marks p a)
   marks-shown p done s = tt
   marks-shown p (code c r) s = (tt, marks-shown (p + 1) r (followed p 1 (c ∷ []) (s .before) (s .after) r refl (s .place) (s .whole)))
   marks-shown p (unsigned n r) s =
@@ -87,32 +91,42 @@ module _ (big : Bool) (bs : List ℕ) (q : ℕ) where
   marks-shown p (fixed width n r) s =
       marks-shown (p + width) r (followed p width (fixedBytes big width n) (s .before) (s .after) r (length-fixed big width n) (s .place) (s .whole))
   marks-shown p (displacement z r) s =
-      let front : List ℕ = fixedBytes big 2 (sixteenBits z) in (
-        (λ fits. ap (λ (xs : List ℕ). signedAt big xs (q + p)) (s .whole ∙ ap (λ (xs : List ℕ). s .before ++ xs) (append-assoc front (bytesOf big r) (s .after)))
-            ∙ displacement-back big z (s .before) (bytesOf big r ++ s .after) (q + p) fits (s .place)),
+      let front : List ℕ = fixedBytes big 2 (sixteenBits z) in
+      let rest : List ℕ = bytesOf big (filled numbers (q + p + 2) r) in (
+        (λ fits. ap (λ (xs : List ℕ). signedAt big xs (q + p)) (s .whole ∙ ap (λ (xs : List ℕ). s .before ++ xs) (append-assoc front rest (s .after)))
+            ∙ displacement-back big z (s .before) (rest ++ s .after) (q + p) fits (s .place)),
         marks-shown (p + 2) r (followed p 2 front (s .before) (s .after) r (length-fixed big 2 (sixteenBits z)) (s .place) (s .whole)),
       )
   marks-shown p (block ds r) s =
       let n : ℕ = length (uleb (length ds)) + length ds in
+      let rest : List ℕ = bytesOf big (filled numbers (q + p + n) r) in
       marks-shown (p + n) r (followed p n (uleb (length ds) ++ ds) (s .before) (s .after) r (length-append (uleb (length ds)) ds) (s .place)
-      (s .whole ∙ ap (λ (xs : List ℕ). s .before ++ (xs ++ s .after)) (sym (append-assoc (uleb (length ds)) ds (bytesOf big r)))))
+      (s .whole ∙ ap (λ (xs : List ℕ). s .before ++ (xs ++ s .after)) (sym (append-assoc (uleb (length ds)) ds rest))))
   marks-shown p (short ds r) s =
       marks-shown (p + (1 + length ds)) r (followed p (1 + length ds) (length ds ∷ ds) (s .before) (s .after) r (omega arith) (s .place) (s .whole))
   marks-shown p (nested a r) s =
       let head : List ℕ = uleb (sizeOf a) in
       let n : ℕ = length head + sizeOf a in
-      let regrouped : bs ≡ s .before ++ (((head ++ bytesOf big a) ++ bytesOf big r) ++ s .after) =
-      s .whole ∙ ap (λ (xs : List ℕ). s .before ++ (xs ++ s .after)) (sym (append-assoc head (bytesOf big a) (bytesOf big r))) in
-      let size : length (head ++ bytesOf big a) ≡ n = length-append head (bytesOf big a) ∙ ap (λ (k : ℕ). length head + k) (length-bytes big a) in (
+      let within : ℕ → List ℕ = λ k. bytesOf big (filled numbers k a) in
+      let rest : List ℕ = bytesOf big (filled numbers (q + p + n) r) in
+      let size : sizeOf (filled numbers (q + p + length head) a) ≡ sizeOf a = size-filled numbers (q + p + length head) a in
+      let place : q + p + length head ≡ q + (p + length head) = omega arith in
+      let given : bs ≡ s .before ++ ((head ++ (within (q + p + length head) ++ rest)) ++ s .after) =
+      s .whole ∙ ap (λ (k : ℕ). s .before ++ ((uleb k ++ (within (q + p + length head) ++ rest)) ++ s .after)) size in
+      let long : length (head ++ within (q + p + length head)) ≡ n =
+      length-append head (within (q + p + length head))
+      ∙ ap (λ (k : ℕ). length head + k) (length-bytes big (filled numbers (q + p + length head) a) ∙ size) in (
         record {
           before = s .before ++ head;
-          after = bytesOf big r ++ s .after;
-          whole = regrouped ∙ simp append-assoc;
+          after = rest ++ s .after;
+          whole = given ∙ ap (λ (k : ℕ). s .before ++ ((head ++ (within k ++ rest)) ++ s .after)) place ∙ simp append-assoc;
           place = let k = length-append (s .before) head in let l = s .place in omega arith;
         },
-        marks-shown (p + n) r (followed p n (head ++ bytesOf big a) (s .before) (s .after) r size (s .place) regrouped),
+        marks-shown (p + n) r (followed p n (head ++ within (q + p + length head)) (s .before) (s .after) r long (s .place)
+            (given ∙ ap (λ (xs : List ℕ). s .before ++ (xs ++ s .after)) (sym (append-assoc head (within (q + p + length head)) rest)))),
       )
   marks-shown p (reference width owner entry r) s =
-      marks-shown (p + width) r (followed p width (replicate width 0) (s .before) (s .after) r (length-replicate width 0) (s .place) (s .whole))
+      marks-shown (p + width) r
+      (followed p width (fixedBytes big width (numbers (q + p))) (s .before) (s .after) r (length-fixed big width (numbers (q + p))) (s .place) (s .whole))
   marks-shown p (raw ds r) s =
       (tt, marks-shown (p + length ds) r (followed p (length ds) ds (s .before) (s .after) r refl (s .place) (s .whole)))

@@ -12,7 +12,7 @@ use Rattle.dwarf.specs.Tokens.{Tokens}
 use Rattle.op.specs.declared.operation.Operation.{Operation}
 use Rattle.rules.specs.Branches.{Mark, first, jump, inner, marks}
 use Rattle.rules.specs.Encode.{encodeOp}
-use Rattle.rules.specs.Kinds.{Kind, given, bare, branch, other, kindOf}
+use Rattle.rules.specs.Kinds.{Kind, given, bare, branch, nesting, other, kindOf}
 use Rattle.rules.specs.Scope.{Scope}
 use Rattle.rules.proofs.Rows.{Rows, by-rows}
 
@@ -25,6 +25,7 @@ abbrev pub Marked : (Option ℕ → Result ℤ Error) → Kind → Tokens → Ty
 Marked leads given a = Once a
 Marked leads (bare c) a = Once a
 Marked leads (branch target) a = (z : ℤ) × (leads target ≡ Ok z) × ((p : ℕ) → marks p a ≡ first p ∷ jump (p + 1) z ∷ [])
+Marked leads (nesting n) a = Once a
 Marked leads other a = Once a
 
 marked-rows : (e : Encoding) (s : Scope) (leads : Option ℕ → Result ℤ Error) → Rows e s leads (λ o bs a. Marked leads (kindOf o) a)

@@ -12,17 +12,17 @@ use Rattle.common.specs.declared.error.Error.{Error}
 use Rattle.dwarf.specs.Fixed.{lowBytes, fixedBytes}
 use Rattle.dwarf.specs.Leb.{uleb, sleb}
 use Rattle.dwarf.specs.Tokens.{Tokens, done, code, unsigned, signed, fixed, displacement, block, short, nested, reference, raw}
-use Rattle.rules.specs.Results.{andThen, plus}
+use Rattle.rules.specs.Results.{plus}
 use Rattle.rules.specs.Bytes.{sizeOf, bytesOf, sixteenBits}
 use Rattle.rules.specs.Claims.{Sizes-hold}
-use Rattle.rules.specs.Encode.{join, starts, encodeOp, encodeTree, encode}
-use Rattle.rules.specs.Operands.{byVersion, displaced}
+use Rattle.rules.specs.Encode.{join, encodeTree}
+use Rattle.rules.specs.Operands.{byVersion}
 use Rattle.rules.specs.Scope.{Scope}
-use Rattle.rules.specs.Sizes.{sizeOp, sizeTree, nestedSize, extentOp, extentNested}
-use Rattle.rules.specs.Tree.{Tree, end, plain, nest}
+use Rattle.rules.specs.Sizes.{sizeOp, sizeTree, nestedSize}
+use Rattle.rules.specs.Tree.{Tree}
 use Rattle.rules.proofs.Join.{size-join}
 use Rattle.rules.proofs.OperationSizes.{operation-size}
-use Rattle.rules.proofs.Results.{value-is, first-step, last-step}
+use Rattle.rules.proofs.Trees.{Grows, by-growth, by-growth-whole}
 
 pub length-low : (width n : ℕ) → length (lowBytes width n) ≡ width
 length-low zero n = refl
@@ -59,33 +59,23 @@ length-bytes big (raw bs r) = in-front bs (bytesOf big r) (length bs) (sizeOf r)
 pub plus-known : (x y : Result ℕ Error) (m n : ℕ) → x ≡ Ok m → y ≡ Ok n → plus x y ≡ Ok (m + n)
 plus-known x y m n e f = ap₂ plus e f
 
-module _ (e : Encoding) (s : Scope) where
-  -- what the encoding of the operations that follow is joined to
-  front-size : (x y : Result ℕ Error) (F : Tokens → Tokens) (k : ℕ) (r : Tokens) → ((t : Tokens) → sizeOf (F t) ≡ k + sizeOf t) →
-      x ≡ Ok k → y ≡ Ok (sizeOf r) → plus x y ≡ Ok (sizeOf (F r))
-  front-size x y F k r sums ex ey = plus-known x y k (sizeOf r) ex ey ∙ ap Ok (sym (sums r))
+-- what the encoding of the operations that follow is joined to
+front-size : (x y : Result ℕ Error) (F : Tokens → Tokens) (k : ℕ) (r : Tokens) → sizeOf (F r) ≡ k + sizeOf r → x ≡ Ok k → y ≡ Ok (sizeOf r) →
+    plus x y ≡ Ok (sizeOf (F r))
+front-size x y F k r sums ex ey = plus-known x y k (sizeOf r) ex ey ∙ ap Ok (sym sums)
 
-  pub tree-size : (hs : List ℕ) (p : ℕ) (t : Tree) (a : Tokens) → encodeTree e s hs p t ≡ Ok a → sizeTree e s t ≡ Ok (sizeOf a)
-  tree-size hs p end a h = value-is (λ r. sizeTree e s end ≡ Ok (sizeOf r)) done a h refl
-  tree-size hs p (plain o bs t) a h =
-      first-step (encodeOp e s (displaced hs (p + 3)) o bs) (λ x. andThen (encodeTree e s hs (p + extentOp e s o bs) t) (λ r. Ok (join x r)))
-      (sizeTree e s (plain o bs t) ≡ Ok (sizeOf a)) a h
-      (λ x is k. last-step (encodeTree e s hs (p + extentOp e s o bs) t) (join x) (λ y. sizeTree e s (plain o bs t) ≡ Ok (sizeOf y)) a k
-      (λ r ir. front-size (sizeOp e s o bs) (sizeTree e s t) (join x) (sizeOf x) r (size-join x)
-      (operation-size e s (displaced hs (p + 3)) o bs x is) (tree-size hs (p + extentOp e s o bs) t r ir)))
-  tree-size hs p (nest y t) a h =
-      first-step (encodeTree e s (starts e s 0 y) 0 y)
-      (λ x. andThen (encodeTree e s hs (p + extentNested e s y) t) (λ r. Ok (code (byVersion e 0xa3 0xf3) (nested x r))))
-      (sizeTree e s (nest y t) ≡ Ok (sizeOf a)) a h
-      (λ x is k. last-step (encodeTree e s hs (p + extentNested e s y) t) (λ r. code (byVersion e 0xa3 0xf3) (nested x r))
-      (λ z. sizeTree e s (nest y t) ≡ Ok (sizeOf z)) a k
-      (λ r ir. front-size (nestedSize (sizeTree e s y)) (sizeTree e s t) (λ r. code (byVersion e 0xa3 0xf3) (nested x r))
-      (1 + (length (uleb (sizeOf x)) + sizeOf x)) r (λ z. omega arith)
-      (ap nestedSize (tree-size (starts e s 0 y) 0 y x is)) (tree-size hs (p + extentNested e s y) t r ir)))
+sizes-grow : (e : Encoding) (s : Scope) → Grows e s (λ t a. sizeTree e s t ≡ Ok (sizeOf a))
+sizes-grow e s = record {
+  at-end = refl;
+  at-plain = λ leads o bs t x r is k.
+      front-size (sizeOp e s o bs) (sizeTree e s t) (join x) (sizeOf x) r (size-join x r) (operation-size e s leads o bs x is) k;
+  at-nest = λ y t x r j k.
+      front-size (nestedSize (sizeTree e s y)) (sizeTree e s t) (λ z. code (byVersion e 0xa3 0xf3) (nested x z)) (1 + (length (uleb (sizeOf x)) + sizeOf x)) r
+      (omega arith) (ap nestedSize j) k;
+}
+
+pub tree-size : (e : Encoding) (s : Scope) (hs : List ℕ) (p : ℕ) (t : Tree) (a : Tokens) → encodeTree e s hs p t ≡ Ok a → sizeTree e s t ≡ Ok (sizeOf a)
+tree-size e s hs p t a h = by-growth e s (λ t a. sizeTree e s t ≡ Ok (sizeOf a)) (sizes-grow e s) hs p t a h
 
 pub sizes-hold : Sizes-hold
-sizes-hold e s t a h = (
-  first-step (sizeTree e s t) (λ size. encodeTree e s (starts e s 0 t) 0 t) (sizeTree e s t ≡ Ok (sizeOf a)) a h
-      (λ n is k. tree-size e s (starts e s 0 t) 0 t a k),
-  λ big. length-bytes big a,
-)
+sizes-hold e s t a h = (by-growth-whole e s (λ t a. sizeTree e s t ≡ Ok (sizeOf a)) (sizes-grow e s) t a h, λ big. length-bytes big a)

@@ -22,8 +22,8 @@ use Rattle.rules.specs.Results.{andThen, amount}
 use Rattle.rules.specs.Branches.{Mark, first, jump, inner, marks, Jump, Inner, firsts, jumps, inners, places, named, targets}
 use Rattle.rules.specs.Bytes.{sizeOf}
 use Rattle.rules.specs.Encode.{join, encodeOp, starts, encodeTree}
-use Rattle.rules.specs.Kinds.{Kind, given, bare, branch, other, kindOf}
-use Rattle.rules.specs.Operands.{byVersion, inTwoBytes, targetAt, displacementFrom, displaced}
+use Rattle.rules.specs.Kinds.{Kind, given, bare, branch, nesting, other, kindOf}
+use Rattle.rules.specs.Operands.{byVersion, inTwoBytes, targetAt, displacementFrom, afterBranch, displaced}
 use Rattle.rules.specs.Scope.{Scope}
 use Rattle.rules.specs.Sizes.{sizeOp, sizeTree, nestedSize, extentOp, extentNested}
 use Rattle.rules.specs.Tree.{Tree, end, plain, nest}
@@ -82,7 +82,7 @@ pub record Added (hs : List ℕ) (p : ℕ) (k : Kind) (ks : List (Option ℕ)) (
 once-added : (hs : List ℕ) (p : ℕ) (ks : List (Option ℕ)) (front ms : List Mark) → front ≡ first p ∷ [] → Added hs p other ks front ms
 once-added hs p ks front ms e = subst (λ f. Added hs p other ks f ms) (sym e) (record { begins = refl; aims = λ a. a; holds = refl })
 
-added : (hs : List ℕ) (p : ℕ) (k : Kind) (ks : List (Option ℕ)) (a : Tokens) (ms : List Mark) → Marked (displaced hs (p + 3)) k a →
+added : (hs : List ℕ) (p : ℕ) (k : Kind) (ks : List (Option ℕ)) (a : Tokens) (ms : List Mark) → Marked (displaced hs (afterBranch p)) k a →
     Added hs p k ks (marks p a) ms
 added hs p given ks a ms m =
     let r = once-added hs p ks (marks p a) ms (m p) in record { begins = r .begins; aims = r .aims; holds = r .holds }
@@ -90,7 +90,9 @@ added hs p (bare c) ks a ms m =
     let r = once-added hs p ks (marks p a) ms (m p) in record { begins = r .begins; aims = r .aims; holds = r .holds }
 added hs p (branch target) ks a ms m =
     subst (λ f. Added hs p (branch target) ks f ms) (sym (m .2 p))
-    (record { begins = refl; aims = λ rest. displaced-aims hs (p + 3) (p + 1) target (m .0) (jumps ms) ks (m .1) (omega arith) rest; holds = refl })
+    (record { begins = refl; aims = λ rest. displaced-aims hs (afterBranch p) (p + 1) target (m .0) (jumps ms) ks (m .1) (omega arith) rest; holds = refl })
+added hs p (nesting n) ks a ms m =
+    let r = once-added hs p ks (marks p a) ms (m p) in record { begins = r .begins; aims = r .aims; holds = r .holds }
 added hs p other ks a ms m = once-added hs p ks (marks p a) ms (m p)
 
 -- what holds of the tokens of operations that go on at p
@@ -101,14 +103,14 @@ pub record Landed (e : Encoding) (s : Scope) (hs : List ℕ) (p : ℕ) (t : Tree
 
 module _ (e : Encoding) (s : Scope) (hs : List ℕ) (p : ℕ) (t : Tree) (r : Tokens) where
   -- an operation in front, of a size that is known
-  landed-plain : (o : Operation) (bs : List ℕ) (x : Tokens) → encodeOp e s (displaced hs (p + 3)) o bs ≡ Ok x → Landed e s hs (p + extentOp e s o bs) t r →
+  landed-plain : (o : Operation) (bs : List ℕ) (x : Tokens) → encodeOp e s (displaced hs (afterBranch p)) o bs ≡ Ok x → Landed e s hs (p + extentOp e s o bs) t r →
       Landed e s hs p (plain o bs t) (join x r)
   landed-plain o bs x is l =
       let n : ℕ = extentOp e s o bs in
-      let size : n ≡ sizeOf x = ap amount (operation-size e s (displaced hs (p + 3)) o bs x is) in
+      let size : n ≡ sizeOf x = ap amount (operation-size e s (displaced hs (afterBranch p)) o bs x is) in
       let ms : List Mark = marks (p + n) r in
       let whole : marks p (join x r) ≡ marks p x ++ ms = marks-join p x r ∙ ap (λ (k : ℕ). marks p x ++ marks (p + k) r) (sym size) in
-      let g = added hs p (kindOf o) (targets t) x ms (operation-marks e s (displaced hs (p + 3)) o bs x is) in
+      let g = added hs p (kindOf o) (targets t) x ms (operation-marks e s (displaced hs (afterBranch p)) o bs x is) in
       let ends : p + sizeOf (join x r) ≡ p + n + sizeOf r = omega (arith, size-join x r) in
       record {
         begins =
@@ -142,7 +144,7 @@ pub tree-landed : (e : Encoding) (s : Scope) (hs : List ℕ) (p : ℕ) (t : Tree
 tree-landed e s hs p end a h =
     value-is (Landed e s hs p end) done a h (record { begins = ap (λ (k : ℕ). k ∷ []) (omega arith); aims = tt; holds = tt })
 tree-landed e s hs p (plain o bs t) a h =
-    first-step (encodeOp e s (displaced hs (p + 3)) o bs) (λ x. andThen (encodeTree e s hs (p + extentOp e s o bs) t) (λ r. Ok (join x r)))
+    first-step (encodeOp e s (displaced hs (afterBranch p)) o bs) (λ x. andThen (encodeTree e s hs (p + extentOp e s o bs) t) (λ r. Ok (join x r)))
     (Landed e s hs p (plain o bs t) a) a h
     (λ x is k. last-step (encodeTree e s hs (p + extentOp e s o bs) t) (join x) (Landed e s hs p (plain o bs t)) a k
     (λ r ir. landed-plain e s hs p t r o bs x is (tree-landed e s hs (p + extentOp e s o bs) t r ir)))

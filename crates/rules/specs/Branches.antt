@@ -11,7 +11,7 @@ use Rattle.std.specs.declared.option.Option.the-variants.{None, Some}
 use Rattle.dwarf.specs.Leb.{uleb, sleb}
 use Rattle.dwarf.specs.Tokens.{Tokens, done, code, unsigned, signed, fixed, displacement, block, short, nested, reference, raw}
 use Rattle.rules.specs.Bytes.{sizeOf}
-use Rattle.rules.specs.Kinds.{Kind, given, bare, branch, other, kindOf}
+use Rattle.rules.specs.Kinds.{Kind, given, bare, branch, nesting, other, kindOf}
 use Rattle.rules.specs.Tree.{Tree, end, plain, nest}
 
 -- What stands at a place of a run, counted from the run's start.
@@ -75,6 +75,7 @@ abbrev pub named : Kind → List (Option ℕ) → List (Option ℕ)
 named given ks = ks
 named (bare c) ks = ks
 named (branch target) ks = target ∷ ks
+named (nesting n) ks = ks
 named other ks = ks
 
 -- the operations that the branches of an expression name, in order

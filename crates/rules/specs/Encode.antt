@@ -47,7 +47,7 @@ use Rattle.rules.specs.Results.{andThen}
 use Rattle.rules.specs.Scope.{Scope, baseOf, baseOrGeneric}
 use Rattle.rules.specs.Tree.{Tree, end, plain, nest}
 use Rattle.rules.specs.Sizes.{pointerSize, sizeTree, extentOp, extentNested}
-use Rattle.rules.specs.Operands.{byVersion, inWidth, addressIn, shortData, referred, displaced}
+use Rattle.rules.specs.Operands.{byVersion, inWidth, addressIn, shortData, referred, afterBranch, displaced}
 
 -- a run of tokens in front of another
 abbrev pub join : Tokens → Tokens → Tokens
@@ -109,7 +109,7 @@ starts e s p (nest y t) = p ∷ starts e s (p + extentNested e s y) t
 abbrev pub encodeTree : Encoding → Scope → List ℕ → ℕ → Tree → Result Tokens Error
 encodeTree e s hs p end = Ok done
 encodeTree e s hs p (plain o bs t) =
-    andThen (encodeOp e s (displaced hs (p + 3)) o bs) (λ a. andThen (encodeTree e s hs (p + extentOp e s o bs) t) (λ r. Ok (join a r)))
+    andThen (encodeOp e s (displaced hs (afterBranch p)) o bs) (λ a. andThen (encodeTree e s hs (p + extentOp e s o bs) t) (λ r. Ok (join a r)))
 encodeTree e s hs p (nest y t) =
     andThen (encodeTree e s (starts e s 0 y) 0 y)
     (λ a. andThen (encodeTree e s hs (p + extentNested e s y) t) (λ r. Ok (code (byVersion e 0xa3 0xf3) (nested a r))))

@@ -1,4 +1,4 @@
--- Operations apart that the readable ones and the branches are told by.
+-- What tells branches, and operations that may not be readable, from the others.
 use Prim.Native.Nat.{ℕ}
 use Rattle.std.specs.declared.option.Option.{Option}
 use Rattle.op.specs.declared.operation.Operation.{Operation}
@@ -40,6 +40,8 @@ pub data Kind : Type 0 where
   bare : ℕ → Kind
   -- a branch, with the operation that it names
   branch : Option ℕ → Kind
+  -- an entry value, with the number of its expression
+  nesting : ℕ → Kind
   -- any other
   other : Kind
 
@@ -66,7 +68,7 @@ kindOf (CallRef entry) = other
 kindOf (VariableValue entry) = other
 kindOf (Convert base) = other
 kindOf (Reinterpret base) = other
-kindOf (EntryValue n) = other
+kindOf (EntryValue n) = nesting n
 kindOf (Register r) = other
 kindOf (ImplicitValue d) = other
 kindOf (ImplicitPointer entry z) = other

@@ -5,9 +5,11 @@ pub mod Bytes
 pub mod Sizes
 pub mod Operands
 pub mod Encode
+pub mod Passes
 pub mod Kinds
 pub mod Readable
 pub mod References
 pub mod Branches
+pub mod Sealed
 pub mod Claims
 pub mod Examples

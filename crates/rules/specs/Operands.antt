@@ -1,7 +1,7 @@
 -- Operands that depend on the encoding, on offsets or on other operations, with what refuses them.
 use mathlib.Core.Bool.{Bool, cond}
 use mathlib.Core.List.{List}
-use Prim.Native.Nat.{ℕ, _^_}
+use Prim.Native.Nat.{ℕ, _+_, _^_}
 use lib.Dec.{ltb, leb}
 use lib.IntN.{ℤ, pos, negsuc, _-ℤ_}
 use lib.ListN.{length, getD}
@@ -57,6 +57,10 @@ targetAt starts (Some k) = cond (ltb k (length starts)) (Ok (getD starts k 0)) (
 -- a branch's displacement: the target's first byte less the place after the displacement
 abbrev pub displacementFrom : ℕ → ℕ → Result ℤ Error
 displacementFrom after to = cond (inTwoBytes (pos to -ℤ pos after)) (Ok (pos to -ℤ pos after)) (Err ValueTooLarge)
+
+-- the place after a branch that begins at p: one byte of code, two of displacement
+abbrev pub afterBranch : ℕ → ℕ
+afterBranch p = p + 3
 
 -- the displacement of a branch whose operands end at a place
 abbrev pub displaced : List ℕ → ℕ → Option ℕ → Result ℤ Error

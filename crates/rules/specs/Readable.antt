@@ -3,7 +3,7 @@ use mathlib.Core.Bool.{Bool, true, false, _&&_, _||_}
 use mathlib.Core.List.{List, [], _∷_}
 use Prim.Native.Nat.{ℕ}
 use lib.Dec.{leb}
-use Rattle.rules.specs.Kinds.{Kind, given, bare, branch, other, kindOf}
+use Rattle.rules.specs.Kinds.{Kind, given, bare, branch, nesting, other, kindOf}
 use Rattle.rules.specs.Tree.{Tree, end, plain, nest}
 
 -- codes without operands: first and last of each range (DWARF 5, section 7.7.1)
@@ -21,6 +21,7 @@ abbrev pub readableKind : Kind → Bool
 readableKind given = false
 readableKind (bare c) = among bareCodes c
 readableKind (branch target) = true
+readableKind (nesting n) = true
 readableKind other = true
 
 -- an expression is readable when its operations and its nested expressions are
