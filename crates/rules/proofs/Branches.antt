@@ -8,13 +8,13 @@ use lib.IntN.{ℤ, pos, _+ℤ_}
 use lib.ListN.{length}
 use Rattle.std.specs.declared.option.Option.{Option}
 use Rattle.std.specs.declared.option.Option.the-variants.{None, Some}
+use Rattle.dwarf.specs.Bytes.{sizeOf, bytesOf}
+use Rattle.dwarf.specs.References.{shown}
 use Rattle.dwarf.specs.Tokens.{Tokens}
 use Rattle.rules.specs.Branches.{Mark, first, jump, inner, marks, Jump, Inner, firsts, jumps, inners, places, targets, signedAt, Lead, Leads, Nested}
-use Rattle.rules.specs.Bytes.{sizeOf, bytesOf}
 use Rattle.rules.specs.Claims.{Branches-lead}
 use Rattle.rules.specs.Encode.{encode, encodeTree, starts}
 use Rattle.rules.specs.Operands.{inTwoBytes}
-use Rattle.rules.specs.References.{filled}
 use Rattle.rules.specs.Sizes.{sizeTree}
 use Rattle.rules.specs.Tree.{Tree, end, plain, nest}
 use Rattle.rules.proofs.Displacements.{Stands, Shown, AllShown, marks-shown}
@@ -87,14 +87,14 @@ branches-lead e s t a h =
     first-step (sizeTree e s t) (λ size. encodeTree e s (starts e s 0 t) 0 t)
     ((places a ≡ starts e s 0 t)
     × ((big : Bool) (numbers : ℕ → ℕ) (before after : List ℕ) →
-    let bs = before ++ (bytesOf big (filled numbers (length before) a) ++ after) in
+    let bs = before ++ (bytesOf big (shown numbers (length before) a) ++ after) in
     Leads big bs (length before) t a × Nested big bs (length before) t (inners (marks 0 a))))
     a h
     (λ n is k. let l = tree-landed e s (starts e s 0 t) 0 t a k in
     let own : places a ≡ starts e s 0 t = ap (λ (m : ℕ). firsts (marks 0 a) ++ (m ∷ [])) (omega arith) ∙ l .begins in (
       own,
       λ big numbers before after.
-          all-lead big numbers (before ++ (bytesOf big (filled numbers (length before) a) ++ after)) (length before) t a
+          all-lead big numbers (before ++ (bytesOf big (shown numbers (length before) a) ++ after)) (length before) t a
           (record { before = before; after = after; whole = refl; place = refl })
           (subst (λ ps. Aim ps (jumps (marks 0 a)) (targets t)) (sym own) (l .aims)) (l .holds),
     ))

@@ -2,30 +2,30 @@
 use mathlib.Core.Path.{_≡_, refl, sym, ap, ap₂, _∙_}
 use mathlib.Core.Bool.{Bool, true, false, cond}
 use mathlib.Core.List.{List, [], _∷_, _++_, append-assoc}
-use Prim.Native.Nat.{ℕ, _+_, _-_, _*_, _/_, _%_, _<_, _≤_}
+use Prim.Native.Nat.{ℕ, suc, _+_, _-_, _*_, _/_, _%_, _<_, _≤_}
 use native.Mathlib.Omega.{arith}
 use lib.Dec.{ltb}
 use lib.IntN.{ℤ, pos, negsuc}
-use lib.ListN.{length, getD, replicate, length-append, length-replicate}
+use lib.ListN.{length, getD, length-append}
 use lib.Seq.{getD-at}
 use Rattle.std.proofs.shelf.Tests.{ltb-true, lt-ltb, le-ltb}
-use Rattle.dwarf.specs.Fixed.{fixedBytes}
+use Rattle.dwarf.specs.Bytes.{sizeOf, bytesOf}
+use Rattle.dwarf.specs.Fixed.{fixedBytes, twosComplement}
 use Rattle.dwarf.specs.Leb.{uleb, sleb}
+use Rattle.dwarf.specs.References.{shown}
 use Rattle.dwarf.specs.Tokens.{Tokens, done, code, unsigned, signed, fixed, displacement, block, short, nested, reference, raw}
 use Rattle.rules.specs.Branches.{Mark, first, jump, inner, marks, twoBytes, fromSixteen, signedAt}
-use Rattle.rules.specs.Bytes.{sizeOf, bytesOf, sixteenBits}
 use Rattle.rules.specs.Operands.{inTwoBytes}
-use Rattle.rules.specs.References.{filled}
-use Rattle.rules.proofs.References.{size-filled}
-use Rattle.rules.proofs.Sizes.{length-bytes, length-fixed}
+use Rattle.dwarf.proofs.Sizes.{length-shown}
+use Rattle.dwarf.proofs.Widths.{length-fixed}
 
 -- sixteen bits hold the number
-sixteen-back : (z : ℤ) → inTwoBytes z ≡ true → (sixteenBits z < 65536) × (fromSixteen (sixteenBits z) ≡ z)
+sixteen-back : (z : ℤ) → inTwoBytes z ≡ true → (twosComplement 2 z < 65536) × (fromSixteen (twosComplement 2 z) ≡ z)
 sixteen-back (pos n) h = let l = ltb-true n 32768 h in (omega arith, rw (lt-ltb n 32768 l))
 sixteen-back (negsuc m) h =
     let l = ltb-true m 32768 h in
-    let g : 32768 ≤ 65535 - m = omega arith in
-    (omega arith, rw (le-ltb (65535 - m) 32768 g) (ap negsuc (omega arith)))
+    let g : 32768 ≤ 65536 - suc m = omega arith in
+    (omega arith, rw (le-ltb (65536 - suc m) 32768 g) (ap negsuc (omega arith)))
 
 -- two bytes that stand at a place
 first-of : (before rest : List ℕ) (a b p : ℕ) → length before ≡ p → getD (before ++ (a ∷ b ∷ rest)) p 0 ≡ a
@@ -46,15 +46,15 @@ two-back false n before rest p h l =
 
 -- the two bytes of a displacement tell it
 pub displacement-back : (big : Bool) (z : ℤ) (before rest : List ℕ) (p : ℕ) → inTwoBytes z ≡ true → length before ≡ p →
-    signedAt big (before ++ (fixedBytes big 2 (sixteenBits z) ++ rest)) p ≡ z
+    signedAt big (before ++ (fixedBytes big 2 (twosComplement 2 z) ++ rest)) p ≡ z
 displacement-back big z before rest p h l =
-    let b = sixteen-back z h in ap fromSixteen (two-back big (sixteenBits z) before rest p (b .0) l) ∙ b .1
+    let b = sixteen-back z h in ap fromSixteen (two-back big (twosComplement 2 z) before rest p (b .0) l) ∙ b .1
 
 -- tokens stand at a place in bytes, their references filled with some numbers
 pub record Stands (big : Bool) (numbers : ℕ → ℕ) (bs : List ℕ) (q : ℕ) (a : Tokens) : Type 0 where
   pub before : List ℕ
   pub after : List ℕ
-  pub whole : bs ≡ before ++ (bytesOf big (filled numbers q a) ++ after)
+  pub whole : bs ≡ before ++ (bytesOf big (shown numbers q a) ++ after)
   pub place : length before ≡ q
 
 module _ (big : Bool) (numbers : ℕ → ℕ) (bs : List ℕ) (q : ℕ) where
@@ -69,64 +69,77 @@ module _ (big : Bool) (numbers : ℕ → ℕ) (bs : List ℕ) (q : ℕ) where
   AllShown (m ∷ ms) = Shown m × AllShown ms
 
   -- the tokens that follow on some bytes
-  followed : (p n : ℕ) (front : List ℕ) (before after : List ℕ) (r : Tokens) → length front ≡ n → length before ≡ q + p →
-      bs ≡ before ++ ((front ++ bytesOf big (filled numbers (q + p + n) r)) ++ after) → Stands big numbers bs (q + (p + n)) r
-  followed p n front before after r f l e =
-      let place : q + p + n ≡ q + (p + n) = omega arith in
+  followed : (p n at : ℕ) (front before after : List ℕ) (r : Tokens) → length front ≡ n → at ≡ q + (p + n) → length before ≡ q + p →
+      bs ≡ before ++ ((front ++ bytesOf big (shown numbers at r)) ++ after) → Stands big numbers bs (q + (p + n)) r
+  followed p n at front before after r f place l e =
       record {
         before = before ++ front;
         after = after;
-        whole =
-            e ∙ ap (λ (k : ℕ). before ++ ((front ++ bytesOf big (filled numbers k r)) ++ after)) place ∙ simp append-assoc;
+        whole = e ∙ ap (λ (k : ℕ). before ++ ((front ++ bytesOf big (shown numbers k r)) ++ after)) place ∙ simp append-assoc;
         place = let k = length-append before front in omega arith;
       }
 
-  pub marks-shown : (p : ℕ) (a : Tokens) → Stands big numbers bs (q + p) a → AllShown (marks p a)
-  marks-shown p done s = tt
-  marks-shown p (code c r) s = (tt, marks-shown (p + 1) r (followed p 1 (c ∷ []) (s .before) (s .after) r refl (s .place) (s .whole)))
-  marks-shown p (unsigned n r) s =
-      marks-shown (p + length (uleb n)) r (followed p (length (uleb n)) (uleb n) (s .before) (s .after) r refl (s .place) (s .whole))
-  marks-shown p (signed z r) s =
-      marks-shown (p + length (sleb z)) r (followed p (length (sleb z)) (sleb z) (s .before) (s .after) r refl (s .place) (s .whole))
-  marks-shown p (fixed width n r) s =
-      marks-shown (p + width) r (followed p width (fixedBytes big width n) (s .before) (s .after) r (length-fixed big width n) (s .place) (s .whole))
-  marks-shown p (displacement z r) s =
-      let front : List ℕ = fixedBytes big 2 (sixteenBits z) in
-      let rest : List ℕ = bytesOf big (filled numbers (q + p + 2) r) in (
-        (λ fits. ap (λ (xs : List ℕ). signedAt big xs (q + p)) (s .whole ∙ ap (λ (xs : List ℕ). s .before ++ xs) (append-assoc front rest (s .after)))
-            ∙ displacement-back big z (s .before) (rest ++ s .after) (q + p) fits (s .place)),
-        marks-shown (p + 2) r (followed p 2 front (s .before) (s .after) r (length-fixed big 2 (sixteenBits z)) (s .place) (s .whole)),
-      )
-  marks-shown p (block ds r) s =
-      let n : ℕ = length (uleb (length ds)) + length ds in
-      let rest : List ℕ = bytesOf big (filled numbers (q + p + n) r) in
-      marks-shown (p + n) r (followed p n (uleb (length ds) ++ ds) (s .before) (s .after) r (length-append (uleb (length ds)) ds) (s .place)
-      (s .whole ∙ ap (λ (xs : List ℕ). s .before ++ (xs ++ s .after)) (sym (append-assoc (uleb (length ds)) ds rest))))
-  marks-shown p (short ds r) s =
-      marks-shown (p + (1 + length ds)) r (followed p (1 + length ds) (length ds ∷ ds) (s .before) (s .after) r (omega arith) (s .place) (s .whole))
-  marks-shown p (nested a r) s =
+  -- nested tokens, and those that follow on them
+  nested-stands : (p : ℕ) (a r : Tokens) → Stands big numbers bs (q + p) (nested a r) →
+      Stands big numbers bs (q + (p + length (uleb (sizeOf a)))) a × Stands big numbers bs (q + (p + (length (uleb (sizeOf a)) + sizeOf a))) r
+  unfolding bytesOf shown
+  nested-stands p a r s =
       let head : List ℕ = uleb (sizeOf a) in
-      let n : ℕ = length head + sizeOf a in
-      let within : ℕ → List ℕ = λ k. bytesOf big (filled numbers k a) in
-      let rest : List ℕ = bytesOf big (filled numbers (q + p + n) r) in
-      let size : sizeOf (filled numbers (q + p + length head) a) ≡ sizeOf a = size-filled numbers (q + p + length head) a in
-      let place : q + p + length head ≡ q + (p + length head) = omega arith in
-      let given : bs ≡ s .before ++ ((head ++ (within (q + p + length head) ++ rest)) ++ s .after) =
-      s .whole ∙ ap (λ (k : ℕ). s .before ++ ((uleb k ++ (within (q + p + length head) ++ rest)) ++ s .after)) size in
-      let long : length (head ++ within (q + p + length head)) ≡ n =
-      length-append head (within (q + p + length head))
-      ∙ ap (λ (k : ℕ). length head + k) (length-bytes big (filled numbers (q + p + length head) a) ∙ size) in (
+      let at : ℕ = q + p + length head in
+      let within : List ℕ = bytesOf big (shown numbers at a) in
+      let rest : List ℕ = bytesOf big (shown numbers (at + sizeOf a) r) in
+      let size : length within ≡ sizeOf a = length-shown big numbers at a in
+      let place : at ≡ q + (p + length head) = omega arith in
+      let given : bs ≡ s .before ++ ((head ++ (within ++ rest)) ++ s .after) =
+      s .whole ∙ ap (λ (k : ℕ). s .before ++ ((uleb k ++ (within ++ rest)) ++ s .after)) size in
+      let long : length (head ++ within) ≡ length head + sizeOf a = length-append head within ∙ ap (λ (k : ℕ). length head + k) size in (
         record {
           before = s .before ++ head;
           after = rest ++ s .after;
-          whole = given ∙ ap (λ (k : ℕ). s .before ++ ((head ++ (within k ++ rest)) ++ s .after)) place ∙ simp append-assoc;
+          whole =
+              given ∙ ap (λ (k : ℕ). s .before ++ ((head ++ (bytesOf big (shown numbers k a) ++ rest)) ++ s .after)) place ∙ simp append-assoc;
           place = let k = length-append (s .before) head in let l = s .place in omega arith;
         },
-        marks-shown (p + n) r (followed p n (head ++ within (q + p + length head)) (s .before) (s .after) r long (s .place)
-            (given ∙ ap (λ (xs : List ℕ). s .before ++ (xs ++ s .after)) (sym (append-assoc head (within (q + p + length head)) rest)))),
+        followed p (length head + sizeOf a) (at + sizeOf a) (head ++ within) (s .before) (s .after) r long (omega arith) (s .place)
+            (given ∙ ap (λ (xs : List ℕ). s .before ++ (xs ++ s .after)) (sym (append-assoc head within rest))),
       )
+
+  pub marks-shown : (p : ℕ) (a : Tokens) → Stands big numbers bs (q + p) a → AllShown (marks p a)
+  unfolding bytesOf shown
+  marks-shown p done s = tt
+  marks-shown p (code c r) s =
+      (tt, marks-shown (p + 1) r (followed p 1 (q + p + 1) (c ∷ []) (s .before) (s .after) r refl (omega arith) (s .place) (s .whole)))
+  marks-shown p (unsigned n r) s =
+      let m : ℕ = length (uleb n) in
+      marks-shown (p + m) r (followed p m (q + p + m) (uleb n) (s .before) (s .after) r refl (omega arith) (s .place) (s .whole))
+  marks-shown p (signed z r) s =
+      let m : ℕ = length (sleb z) in
+      marks-shown (p + m) r (followed p m (q + p + m) (sleb z) (s .before) (s .after) r refl (omega arith) (s .place) (s .whole))
+  marks-shown p (fixed width n r) s =
+      marks-shown (p + width) r
+      (followed p width (q + p + width) (fixedBytes big width n) (s .before) (s .after) r (length-fixed big width n) (omega arith) (s .place) (s .whole))
+  marks-shown p (displacement z r) s =
+      let front : List ℕ = fixedBytes big 2 (twosComplement 2 z) in
+      let rest : List ℕ = bytesOf big (shown numbers (q + p + 2) r) in (
+        (λ fits. ap (λ (xs : List ℕ). signedAt big xs (q + p)) (s .whole ∙ ap (λ (xs : List ℕ). s .before ++ xs) (append-assoc front rest (s .after)))
+            ∙ displacement-back big z (s .before) (rest ++ s .after) (q + p) fits (s .place)),
+        marks-shown (p + 2) r
+            (followed p 2 (q + p + 2) front (s .before) (s .after) r (length-fixed big 2 (twosComplement 2 z)) (omega arith) (s .place) (s .whole)),
+      )
+  marks-shown p (block ds r) s =
+      let head : List ℕ = uleb (length ds) in
+      let n : ℕ = length head + length ds in
+      let at : ℕ = q + p + length head + length ds in
+      marks-shown (p + n) r (followed p n at (head ++ ds) (s .before) (s .after) r (length-append head ds) (omega arith) (s .place)
+      (s .whole ∙ ap (λ (xs : List ℕ). s .before ++ (xs ++ s .after)) (sym (append-assoc head ds (bytesOf big (shown numbers at r))))))
+  marks-shown p (short ds r) s =
+      marks-shown (p + (1 + length ds)) r
+      (followed p (1 + length ds) (q + p + 1 + length ds) (length ds ∷ ds) (s .before) (s .after) r (omega arith) (omega arith) (s .place) (s .whole))
+  marks-shown p (nested a r) s =
+      let two = nested-stands p a r s in (two .0, marks-shown (p + (length (uleb (sizeOf a)) + sizeOf a)) r (two .1))
   marks-shown p (reference width owner entry r) s =
       marks-shown (p + width) r
-      (followed p width (fixedBytes big width (numbers (q + p))) (s .before) (s .after) r (length-fixed big width (numbers (q + p))) (s .place) (s .whole))
+      (followed p width (q + p + width) (fixedBytes big width (numbers (q + p))) (s .before) (s .after) r (length-fixed big width (numbers (q + p)))
+      (omega arith) (s .place) (s .whole))
   marks-shown p (raw ds r) s =
-      (tt, marks-shown (p + length ds) r (followed p (length ds) ds (s .before) (s .after) r refl (s .place) (s .whole)))
+      (tt, marks-shown (p + length ds) r (followed p (length ds) (q + p + length ds) ds (s .before) (s .after) r refl (omega arith) (s .place) (s .whole)))

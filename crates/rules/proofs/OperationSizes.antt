@@ -11,15 +11,16 @@ use Rattle.std.specs.declared.result.Result.{Result}
 use Rattle.std.specs.declared.result.Result.the-variants.{Ok}
 use Rattle.common.specs.declared.encoding.Encoding.{Encoding}
 use Rattle.common.specs.declared.error.Error.{Error}
+use Rattle.dwarf.specs.Bytes.{sizeOf}
 use Rattle.dwarf.specs.Tokens.{Tokens}
 use Rattle.op.specs.declared.operation.Operation.{Operation}
-use Rattle.rules.specs.Bytes.{sizeOf}
 use Rattle.rules.specs.Encode.{encodeOp}
 use Rattle.rules.specs.Scope.{Scope}
 use Rattle.rules.specs.Sizes.{sizeOp}
 use Rattle.rules.proofs.Rows.{Rows, by-rows}
 
 sized-rows : (e : Encoding) (s : Scope) (leads : Option ℕ → Result ℤ Error) → Rows e s leads (λ o bs a. sizeOp e s o bs ≡ Ok (sizeOf a))
+unfolding sizeOf
 sized-rows e s leads = record {
   of-raw = λ d bs. ap Ok (omega arith);
   of-simple = λ o bs. refl;

@@ -6,9 +6,10 @@ use Rattle.std.specs.declared.result.Result.{Result}
 use Rattle.std.specs.declared.result.Result.the-variants.{Ok, Err}
 use Rattle.common.specs.declared.encoding.Encoding.{Encoding}
 use Rattle.common.specs.declared.error.Error.{Error}
+use Rattle.dwarf.specs.Bytes.{joined}
 use Rattle.dwarf.specs.Tokens.{Tokens, code, nested}
 use Rattle.rules.specs.Results.{andThen}
-use Rattle.rules.specs.Encode.{join, encodeOp, encodeTree, starts}
+use Rattle.rules.specs.Encode.{encodeOp, encodeTree, starts}
 use Rattle.rules.specs.Operands.{byVersion, afterBranch, displaced}
 use Rattle.rules.specs.Passes.{tokensOr, checkOp, tokensOp, checkTree, tokensTree}
 use Rattle.rules.specs.Scope.{Scope}
@@ -42,9 +43,9 @@ two-passes e s hs p end = refl
 two-passes e s hs p (plain o bs t) =
     let x : Result Tokens Error = encodeOp e s (displaced hs (afterBranch p)) o bs in
     let q : ℕ = p + extentOp e s o bs in
-    steps x (encodeTree e s hs q t) (passed (checkOp e s hs p o bs) (tokensOp e s hs p o bs)) (passed (checkTree e s hs q t) (tokensTree e s hs q t)) join
+    steps x (encodeTree e s hs q t) (passed (checkOp e s hs p o bs) (tokensOp e s hs p o bs)) (passed (checkTree e s hs q t) (tokensTree e s hs q t)) joined
     (apart x) (two-passes e s hs q t)
-    ∙ both (checkOp e s hs p o bs) (checkTree e s hs q t) (tokensOp e s hs p o bs) (tokensTree e s hs q t) join
+    ∙ both (checkOp e s hs p o bs) (checkTree e s hs q t) (tokensOp e s hs p o bs) (tokensTree e s hs q t) joined
 two-passes e s hs p (nest y t) =
     let q : ℕ = p + extentNested e s y in
     let ks : List ℕ = starts e s 0 y in

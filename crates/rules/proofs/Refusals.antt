@@ -28,6 +28,7 @@ use Rattle.common.specs.declared.error.Error.the-variants.{
 }
 use Rattle.dwarf.specs.Fixed.{isWidth}
 use Rattle.dwarf.specs.Leb.{uleb}
+use Rattle.dwarf.specs.Bytes.{joined}
 use Rattle.dwarf.specs.Tokens.{Tokens, done, code, unsigned, signed, fixed, displacement, short, nested, reference}
 use Rattle.op.specs.declared.operation.DebugInfoRef.{DebugInfoRef}
 use Rattle.op.specs.declared.operation.DebugInfoRef.the-variants.{Symbol, Entry}
@@ -64,7 +65,7 @@ use Rattle.op.specs.declared.operation.Operation.the-variants.{
 }
 use Rattle.rules.specs.Results.{andThen, plus}
 use Rattle.rules.specs.Claims.{Refusals-listed}
-use Rattle.rules.specs.Encode.{join, encodeOp, starts, encodeTree, encode}
+use Rattle.rules.specs.Encode.{encodeOp, starts, encodeTree, encode}
 use Rattle.rules.specs.Kinds.{branch, kindOf}
 use Rattle.rules.specs.Operands.{byVersion, inWidth, addressIn, shortData, referred, inTwoBytes, targetAt, displacementFrom, afterBranch, displaced}
 use Rattle.rules.specs.Scope.{Scope, inFrame, inUnit, fromStart, baseOf, baseOrGeneric}
@@ -231,9 +232,9 @@ length-starts e s p (nest y t) = ap suc (length-starts e s (p + extentNested e s
 listed-tree : (e : Encoding) (s : Scope) (hs : List ℕ) (n p : ℕ) (t : Tree) → length hs ≡ suc n → Sealed n t → Listed (encodeTree e s hs p t)
 listed-tree e s hs n p end l h = tt
 listed-tree e s hs n p (plain o bs t) l h =
-    listed-then (encodeOp e s (displaced hs (afterBranch p)) o bs) (λ x. andThen (encodeTree e s hs (p + extentOp e s o bs) t) (λ r. Ok (join x r)))
+    listed-then (encodeOp e s (displaced hs (afterBranch p)) o bs) (λ x. andThen (encodeTree e s hs (p + extentOp e s o bs) t) (λ r. Ok (joined x r)))
     (listed-encoded e s (displaced hs (afterBranch p)) n o bs (λ k b. listed-displaced hs (afterBranch p) k (omega arith)) (h .0))
-    (λ x. listed-op (encodeTree e s hs (p + extentOp e s o bs) t) (join x) (listed-tree e s hs n (p + extentOp e s o bs) t l (h .1)))
+    (λ x. listed-op (encodeTree e s hs (p + extentOp e s o bs) t) (joined x) (listed-tree e s hs n (p + extentOp e s o bs) t l (h .1)))
 listed-tree e s hs n p (nest y t) l h =
     listed-then (encodeTree e s (starts e s 0 y) 0 y)
     (λ x. andThen (encodeTree e s hs (p + extentNested e s y) t) (λ r. Ok (code (byVersion e 0xa3 0xf3) (nested x r))))

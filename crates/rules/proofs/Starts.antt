@@ -46,8 +46,10 @@ starts-at e s inner b p (o ∷ xs) ys = grown (shape b o) (λ q. starts-at e s i
   where
     rest : Tree
     rest = rows inner b (xs ++ ys)
+
     before : Tree
     before = rows inner b xs
+
     grown : (x : Shape) → ((q : ℕ) → getD (starts e s q rest) (length xs) 0 ≡ q + extent e s before) →
         getD (starts e s p (grow inner x rest)) (suc (length xs)) 0 ≡ p + extent e s (grow inner x before)
     grown (single o bs) k = k (p + extentOp e s o bs) ∙ omega arith

@@ -16,18 +16,19 @@ use Rattle.common.specs.declared.encoding.Encoding.{Encoding}
 use Rattle.common.specs.declared.error.Error.{Error}
 use Rattle.common.specs.declared.error.Error.the-variants.{ValueTooLarge, BadTarget, BranchOpen}
 use Rattle.dwarf.specs.Leb.{uleb}
+use Rattle.dwarf.specs.Bytes.{sizeOf, joined}
 use Rattle.dwarf.specs.Tokens.{Tokens, done, code, nested}
 use Rattle.op.specs.declared.operation.Operation.{Operation}
 use Rattle.rules.specs.Results.{andThen, amount}
 use Rattle.rules.specs.Branches.{Mark, first, jump, inner, marks, Jump, Inner, firsts, jumps, inners, places, named, targets}
-use Rattle.rules.specs.Bytes.{sizeOf}
-use Rattle.rules.specs.Encode.{join, encodeOp, starts, encodeTree}
+use Rattle.rules.specs.Encode.{encodeOp, starts, encodeTree}
 use Rattle.rules.specs.Kinds.{Kind, given, bare, branch, nesting, other, kindOf}
 use Rattle.rules.specs.Operands.{byVersion, inTwoBytes, targetAt, displacementFrom, afterBranch, displaced}
 use Rattle.rules.specs.Scope.{Scope}
 use Rattle.rules.specs.Sizes.{sizeOp, sizeTree, nestedSize, extentOp, extentNested}
 use Rattle.rules.specs.Tree.{Tree, end, plain, nest}
-use Rattle.rules.proofs.Join.{marks-join, size-join}
+use Rattle.dwarf.proofs.Joining.{size-joined}
+use Rattle.rules.proofs.Marks.{marks-joined}
 use Rattle.rules.proofs.OperationMarks.{Once, Marked, operation-marks}
 use Rattle.rules.proofs.OperationSizes.{operation-size}
 use Rattle.rules.proofs.Results.{not-refused, value-is, first-step, last-step}
@@ -104,14 +105,14 @@ pub record Landed (e : Encoding) (s : Scope) (hs : List ℕ) (p : ℕ) (t : Tree
 module _ (e : Encoding) (s : Scope) (hs : List ℕ) (p : ℕ) (t : Tree) (r : Tokens) where
   -- an operation in front, of a size that is known
   landed-plain : (o : Operation) (bs : List ℕ) (x : Tokens) → encodeOp e s (displaced hs (afterBranch p)) o bs ≡ Ok x → Landed e s hs (p + extentOp e s o bs) t r →
-      Landed e s hs p (plain o bs t) (join x r)
+      Landed e s hs p (plain o bs t) (joined x r)
   landed-plain o bs x is l =
       let n : ℕ = extentOp e s o bs in
       let size : n ≡ sizeOf x = ap amount (operation-size e s (displaced hs (afterBranch p)) o bs x is) in
       let ms : List Mark = marks (p + n) r in
-      let whole : marks p (join x r) ≡ marks p x ++ ms = marks-join p x r ∙ ap (λ (k : ℕ). marks p x ++ marks (p + k) r) (sym size) in
+      let whole : marks p (joined x r) ≡ marks p x ++ ms = marks-joined p x r ∙ ap (λ (k : ℕ). marks p x ++ marks (p + k) r) (sym size) in
       let g = added hs p (kindOf o) (targets t) x ms (operation-marks e s (displaced hs (afterBranch p)) o bs x is) in
-      let ends : p + sizeOf (join x r) ≡ p + n + sizeOf r = omega (arith, size-join x r) in
+      let ends : p + sizeOf (joined x r) ≡ p + n + sizeOf r = omega (arith, size-joined x r) in
       record {
         begins =
             ap₂ (λ (m : List Mark) (k : ℕ). firsts m ++ (k ∷ [])) whole ends
@@ -123,6 +124,7 @@ module _ (e : Encoding) (s : Scope) (hs : List ℕ) (p : ℕ) (t : Tree) (r : To
   -- an entry value in front
   landed-nest : (y : Tree) (c : ℕ) (x : Tokens) → sizeTree e s y ≡ Ok (sizeOf x) → Landed e s (starts e s 0 y) 0 y x →
       Landed e s hs (p + extentNested e s y) t r → Landed e s hs p (nest y t) (code c (nested x r))
+  unfolding sizeOf
   landed-nest y c x is within l =
       let head : ℕ = length (uleb (sizeOf x)) in
       let size : extentNested e s y ≡ 1 + (head + sizeOf x) = ap (λ (z : Result ℕ Error). amount (nestedSize z)) is in
@@ -141,12 +143,13 @@ module _ (e : Encoding) (s : Scope) (hs : List ℕ) (p : ℕ) (t : Tree) (r : To
       }
 
 pub tree-landed : (e : Encoding) (s : Scope) (hs : List ℕ) (p : ℕ) (t : Tree) (a : Tokens) → encodeTree e s hs p t ≡ Ok a → Landed e s hs p t a
+unfolding sizeOf
 tree-landed e s hs p end a h =
     value-is (Landed e s hs p end) done a h (record { begins = ap (λ (k : ℕ). k ∷ []) (omega arith); aims = tt; holds = tt })
 tree-landed e s hs p (plain o bs t) a h =
-    first-step (encodeOp e s (displaced hs (afterBranch p)) o bs) (λ x. andThen (encodeTree e s hs (p + extentOp e s o bs) t) (λ r. Ok (join x r)))
+    first-step (encodeOp e s (displaced hs (afterBranch p)) o bs) (λ x. andThen (encodeTree e s hs (p + extentOp e s o bs) t) (λ r. Ok (joined x r)))
     (Landed e s hs p (plain o bs t) a) a h
-    (λ x is k. last-step (encodeTree e s hs (p + extentOp e s o bs) t) (join x) (Landed e s hs p (plain o bs t)) a k
+    (λ x is k. last-step (encodeTree e s hs (p + extentOp e s o bs) t) (joined x) (Landed e s hs p (plain o bs t)) a k
     (λ r ir. landed-plain e s hs p t r o bs x is (tree-landed e s hs (p + extentOp e s o bs) t r ir)))
 tree-landed e s hs p (nest y t) a h =
     first-step (encodeTree e s (starts e s 0 y) 0 y)

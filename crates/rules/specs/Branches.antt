@@ -9,8 +9,8 @@ use lib.ListN.{length, getD}
 use Rattle.std.specs.declared.option.Option.{Option}
 use Rattle.std.specs.declared.option.Option.the-variants.{None, Some}
 use Rattle.dwarf.specs.Leb.{uleb, sleb}
+use Rattle.dwarf.specs.Bytes.{sizeOf}
 use Rattle.dwarf.specs.Tokens.{Tokens, done, code, unsigned, signed, fixed, displacement, block, short, nested, reference, raw}
-use Rattle.rules.specs.Bytes.{sizeOf}
 use Rattle.rules.specs.Kinds.{Kind, given, bare, branch, nesting, other, kindOf}
 use Rattle.rules.specs.Tree.{Tree, end, plain, nest}
 

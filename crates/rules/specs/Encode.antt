@@ -11,6 +11,7 @@ use Rattle.common.specs.Formats.{wordSize}
 use Rattle.common.specs.declared.encoding.Encoding.{Encoding}
 use Rattle.common.specs.declared.error.Error.{Error}
 use Rattle.common.specs.declared.error.Error.the-variants.{NoExpression}
+use Rattle.dwarf.specs.Bytes.{joined}
 use Rattle.dwarf.specs.Tokens.{Tokens, done, code, unsigned, signed, fixed, displacement, block, short, nested, reference, raw}
 use Rattle.op.specs.declared.operation.Operation.{Operation}
 use Rattle.op.specs.declared.operation.Operation.the-variants.{
@@ -48,20 +49,6 @@ use Rattle.rules.specs.Scope.{Scope, baseOf, baseOrGeneric}
 use Rattle.rules.specs.Tree.{Tree, end, plain, nest}
 use Rattle.rules.specs.Sizes.{pointerSize, sizeTree, extentOp, extentNested}
 use Rattle.rules.specs.Operands.{byVersion, inWidth, addressIn, shortData, referred, afterBranch, displaced}
-
--- a run of tokens in front of another
-abbrev pub join : Tokens → Tokens → Tokens
-join done t = t
-join (code c r) t = code c (join r t)
-join (unsigned n r) t = unsigned n (join r t)
-join (signed z r) t = signed z (join r t)
-join (fixed width n r) t = fixed width n (join r t)
-join (displacement z r) t = displacement z (join r t)
-join (block bs r) t = block bs (join r t)
-join (short bs r) t = short bs (join r t)
-join (nested a r) t = nested a (join r t)
-join (reference width target entry r) t = reference width target entry (join r t)
-join (raw bs r) t = raw bs (join r t)
 
 -- an operation that nests nothing, given its data; `leads` gives a branch's displacement; `nest` stands for an entry value
 abbrev pub encodeOp : Encoding → Scope → (Option ℕ → Result ℤ Error) → Operation → List ℕ → Result Tokens Error
@@ -109,7 +96,7 @@ starts e s p (nest y t) = p ∷ starts e s (p + extentNested e s y) t
 abbrev pub encodeTree : Encoding → Scope → List ℕ → ℕ → Tree → Result Tokens Error
 encodeTree e s hs p end = Ok done
 encodeTree e s hs p (plain o bs t) =
-    andThen (encodeOp e s (displaced hs (afterBranch p)) o bs) (λ a. andThen (encodeTree e s hs (p + extentOp e s o bs) t) (λ r. Ok (join a r)))
+    andThen (encodeOp e s (displaced hs (afterBranch p)) o bs) (λ a. andThen (encodeTree e s hs (p + extentOp e s o bs) t) (λ r. Ok (joined a r)))
 encodeTree e s hs p (nest y t) =
     andThen (encodeTree e s (starts e s 0 y) 0 y)
     (λ a. andThen (encodeTree e s hs (p + extentNested e s y) t) (λ r. Ok (code (byVersion e 0xa3 0xf3) (nested a r))))

@@ -22,6 +22,8 @@ use Rattle.common.specs.declared.error.Error.the-variants.{
   UnsupportedExpressionForwardReference,
   UnsupportedCfiExpressionReference,
 }
+use Rattle.dwarf.specs.Bytes.{bytesOf}
+use Rattle.dwarf.specs.References.{references}
 use Rattle.op.specs.declared.operation.DebugInfoRef.the-variants as debug
 use Rattle.op.specs.declared.operation.Operation.{Operation}
 use Rattle.op.specs.declared.operation.Operation.the-variants.{
@@ -55,9 +57,7 @@ use Rattle.op.specs.declared.operation.Operation.the-variants.{
   ParameterRef,
 }
 use Rattle.rules.specs.Results.{andThen}
-use Rattle.rules.specs.Bytes.{bytesOf}
 use Rattle.rules.specs.Encode.{encode}
-use Rattle.rules.specs.References.{Reference, references}
 use Rattle.rules.specs.Scope.{Scope, inFrame, inUnit}
 use Rattle.rules.specs.Sizes.{sizeTree}
 use Rattle.rules.specs.Tree.{Expression, Store, Tree, end, plain, expressionTree}
@@ -112,7 +112,7 @@ Forms =
     × (written version5 (expressionTree store 2) ≡ Ok (0xa4 ∷ 0x82 ∷ 0x01 ∷ 0x01 ∷ 0x07 ∷ []))
     -- the reference stands 3 bytes after the start of the whole expression
     × (written version5 (expressionTree store 1) ≡ Ok (0xa3 ∷ 0x05 ∷ 0x9a ∷ 0x00 ∷ 0x00 ∷ 0x00 ∷ 0x00 ∷ 0x9f ∷ []))
-    × (andThen (encode version5 unit100 (expressionTree store 1)) (λ a. Ok (references 0 a)) ≡ Ok (record { place = 3; width = 4; owner = 2; entry = 5 } ∷ []))
+    × (andThen (encode version5 unit100 (expressionTree store 1)) (λ a. Ok (references 0 a)) ≡ Ok (record { offset = 3; width = 4; unit = 2; entry = 5 } ∷ []))
 
 -- the codes and operands of the others, and GNU's codes in version 4
 abbrev pub Codes : Type 0

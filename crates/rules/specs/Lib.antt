@@ -1,14 +1,12 @@
 pub mod Results
 pub mod Tree
 pub mod Scope
-pub mod Bytes
 pub mod Sizes
 pub mod Operands
 pub mod Encode
 pub mod Passes
 pub mod Kinds
 pub mod Readable
-pub mod References
 pub mod Branches
 pub mod Sealed
 pub mod Claims

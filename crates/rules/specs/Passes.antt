@@ -5,10 +5,11 @@ use Rattle.std.specs.declared.result.Result.{Result}
 use Rattle.std.specs.declared.result.Result.the-variants.{Ok, Err}
 use Rattle.common.specs.declared.encoding.Encoding.{Encoding}
 use Rattle.common.specs.declared.error.Error.{Error}
+use Rattle.dwarf.specs.Bytes.{joined}
 use Rattle.dwarf.specs.Tokens.{Tokens, done, code, nested}
 use Rattle.op.specs.declared.operation.Operation.{Operation}
 use Rattle.rules.specs.Results.{andThen}
-use Rattle.rules.specs.Encode.{join, encodeOp, starts}
+use Rattle.rules.specs.Encode.{encodeOp, starts}
 use Rattle.rules.specs.Operands.{byVersion, afterBranch, displaced}
 use Rattle.rules.specs.Scope.{Scope}
 use Rattle.rules.specs.Sizes.{extentOp, extentNested}
@@ -36,7 +37,7 @@ checkTree e s hs p (nest y t) = andThen (checkTree e s (starts e s 0 y) 0 y) (λ
 -- the tokens of operations that go on at p, where none is refused
 abbrev pub tokensTree : Encoding → Scope → List ℕ → ℕ → Tree → Tokens
 tokensTree e s hs p end = done
-tokensTree e s hs p (plain o bs t) = join (tokensOp e s hs p o bs) (tokensTree e s hs (p + extentOp e s o bs) t)
+tokensTree e s hs p (plain o bs t) = joined (tokensOp e s hs p o bs) (tokensTree e s hs (p + extentOp e s o bs) t)
 tokensTree e s hs p (nest y t) =
     code (byVersion e 0xa3 0xf3) (nested (tokensTree e s (starts e s 0 y) 0 y) (tokensTree e s hs (p + extentNested e s y) t))
 

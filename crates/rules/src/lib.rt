@@ -1,6 +1,6 @@
 //! What an expression is in bytes: definitions and their theorems.
 
-ghost use Rattle.rules.specs.Claims.{Branches-lead, Fill-sets-one, Refusals-listed, Sizes-hold, Zero-until-filled};
+ghost use Rattle.rules.specs.Claims.{Branches-lead, References-wide, Refusals-listed, Sizes-hold};
 ghost use Rattle.rules.specs.Examples.{Worked};
 
 /// The size of an accepted expression is the number of its bytes.
@@ -17,16 +17,9 @@ pub fn refusals_listed() -> u8
     0
 }
 
-/// References are zero until they are filled.
-pub fn zero_until_filled() -> u8
-    ensures { λ _. ⌜ Zero-until-filled ⌝ }
-{
-    0
-}
-
-/// A number set down at the place of a reference fills that reference and changes nothing else.
-pub fn fill_sets_one() -> u8
-    ensures { λ _. ⌜ Fill-sets-one ⌝ }
+/// Every reference of an accepted expression has a byte at least.
+pub fn references_wide() -> u8
+    ensures { λ _. ⌜ References-wide ⌝ }
 {
     0
 }
