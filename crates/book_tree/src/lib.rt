@@ -1,0 +1,1 @@
+//! The expressions of a book as trees: definitions and proofs.
