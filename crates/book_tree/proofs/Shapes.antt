@@ -93,3 +93,7 @@ module _ (s : State) (w : Whole s) (k : ℕ) (there : k < s .sealedCount) where
 
   pub within-4096 : expressionAt s k .start + expressionAt s k .count ≤ 4096
   within-4096 = let a = w .ends k there in let b = w .counted .since in let d = w .counted .ops-in in omega arith
+
+-- an operation that holds data in its book
+pub data-size : (s : State) (x : Operation) (d : Data) → shape x ≡ Holding d → InBook s (shape x) → length (tree.bytesAt (storeOf s) d) ≡ d .len
+data-size s x d e h = data-length s d (subst (InBook s) e h)

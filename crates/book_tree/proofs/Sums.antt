@@ -9,10 +9,13 @@ use Rattle.std.specs.declared.result.Result.{Result}
 use Rattle.std.specs.declared.result.Result.the-variants.{Ok, Err}
 use Rattle.common.specs.declared.encoding.Encoding.{Encoding}
 use Rattle.common.specs.declared.error.Error.{Error}
+use Rattle.dwarf.specs.Leb.{uleb}
+use Rattle.op.specs.declared.operation.Data.{Data}
 use Rattle.op.specs.declared.operation.Operation.{Operation}
+use Rattle.op.specs.declared.operation.Operation.the-variants as op
 use Rattle.book_state.specs.State.{State}
-use Rattle.rules.specs.Results.{plus}
-use Rattle.rules.specs.Scope.{Scope}
+use Rattle.rules.specs.Results.{andThen, plus}
+use Rattle.rules.specs.Scope.{Scope, baseOf}
 use Rattle.rules.specs.Sizes.{sizeTree}
 use Rattle.rules.specs.Tree as tree
 use Rattle.book_tree.specs.Store.{storeOf, treeIn, sizeBy, sizeIn}
@@ -51,3 +54,19 @@ module _ (e : Encoding) (s : Scope) (b : State) (xs : List Operation) (t : ℕ) 
   -- nothing is left
   pub size-all : xs ≡ [] → plus (Ok t) (rowsSize e s b xs) ≡ r → Ok t ≡ r
   size-all p h = let z : t ≡ t + 0 = omega arith in ap Ok z ∙ (sym (ap (λ y. plus (Ok t) (rowsSize e s b y)) p) ∙ h)
+
+-- operations that hold data, as many as they say
+module _ (e : Encoding) (s : Scope) (b : State) (x : Operation) (d : Data) (l : length (tree.bytesAt (storeOf b) d) ≡ d .len) where
+  pub raw-size : x ≡ op.Raw d → Ok (d .len) ≡ sizeIn e s b x
+  raw-size p = ap Ok (sym l) ∙ ap (sizeIn e s b) (sym p)
+
+  pub constant-type-size : (base n k : ℕ) → x ≡ op.ConstantType base d → Ok n ≡ baseOf s base → k ≡ length (uleb n) → Ok (1 + k + 1 + d .len) ≡ sizeIn e s b x
+  constant-type-size base n k p h q =
+      let bs = tree.bytesAt (storeOf b) d in
+      let a : 1 + k + 1 + d .len ≡ 1 + (length (uleb n) + (1 + length bs)) = omega arith in
+      ap Ok a ∙ (ap (λ r. andThen r (λ m. Ok (1 + (length (uleb m) + (1 + length bs))))) h ∙ ap (sizeIn e s b) (sym p))
+
+  pub implicit-value-size : (k : ℕ) → x ≡ op.ImplicitValue d → k ≡ length (uleb (d .len)) → Ok (1 + k + d .len) ≡ sizeIn e s b x
+  implicit-value-size k p q =
+      let a : 1 + k + d .len ≡ 1 + (length (uleb (d .len)) + d .len) = omega arith in
+      ap Ok a ∙ (ap (λ n. Ok (1 + (length (uleb n) + n))) (sym l) ∙ ap (sizeIn e s b) (sym p))

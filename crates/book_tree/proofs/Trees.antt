@@ -3,7 +3,7 @@ use mathlib.Core.Path.{_≡_, refl, sym, ap, subst, _∙_}
 use mathlib.Core.Logic.{⊎-elim}
 use mathlib.Core.List.{List, [], _∷_}
 use Prim.Native.Nat.{ℕ, zero, suc, max, _+_, _<_, _≤_}
-use lib.ListN.{length, getD}
+use lib.ListN.{length, getD, drop}
 use native.Mathlib.Omega.{arith}
 use Rattle.op.specs.declared.operation.Operation.{Operation}
 use Rattle.op.specs.declared.operation.Operation.the-variants as op
@@ -12,7 +12,7 @@ use Rattle.book_state.specs.declared.shape.Shape.the-variants.{Plain, Holding, 
 use Rattle.book_state.specs.Operations.{shape}
 use Rattle.book_state.specs.State.{State, opAt, noOperation, expressionAt, operationsOf, depthBy, depthOf, gathered}
 use Rattle.book_state.specs.Whole.{Whole}
-use Rattle.book_state.proofs.Slices.{length-slice, slice-at}
+use Rattle.book_state.proofs.Slices.{length-slice, slice-at, slice-more, slice-all}
 use Rattle.rules.specs.Tree as tree
 use Rattle.book_tree.specs.Store.{storeOf, treeIn, rowOf}
 use Rattle.book_tree.proofs.Shapes.{brought, shape-is, row-at, nested-before, within}
@@ -85,3 +85,20 @@ module _ (s : State) (w : Whole s) where
       tree-suc 16 k
       ∙ rows-same (tree.treeOf 16 (storeOf s)) (treeIn s) (storeOf s) (operationsOf s k)
       (λ i m q e. let a = nested-lower k i m there q e in let d = w .counted .shallow k in levels-same 16 17 m (nested-there k i m there q e) (omega arith) (omega arith))
+
+  -- an operation is no deeper than its expression
+  pub depth-at : (k i : ℕ) → k < s .sealedCount → i < expressionAt s k .count →
+      depthBy (s .expressions) (shape (opAt s (expressionAt s k .start + i))) ≤ expressionAt s k .depth
+  depth-at k i there l =
+      let n = length-operations k there in
+      let d = w .deep k there in
+      subst (λ (x : Operation). depthBy (s .expressions) (shape x) ≤ expressionAt s k .depth) (operation-at k i l)
+      (depth-in (expressionAt s k .depth) (λ x. depthBy (s .expressions) (shape x)) (operationsOf s k) i (omega arith) (omega arith))
+
+  -- the operations that are left, one on and at the end
+  pub operations-more : (k i : ℕ) → k < s .sealedCount → i < expressionAt s k .count →
+      drop i (operationsOf s k) ≡ opAt s (expressionAt s k .start + i) ∷ drop (i + 1) (operationsOf s k)
+  operations-more k i there l = slice-more (s .operations) (expressionAt s k .start) (expressionAt s k .count) (within s w k there) i noOperation l
+
+  pub operations-all : (k i : ℕ) → k < s .sealedCount → expressionAt s k .count ≤ i → drop i (operationsOf s k) ≡ []
+  operations-all k i there l = slice-all (s .operations) (expressionAt s k .start) (expressionAt s k .count) (within s w k there) i l
