@@ -10,3 +10,4 @@ pub mod Opened
 pub mod Keeping
 pub mod Recovered
 pub mod Raw
+pub mod Nested
