@@ -3,7 +3,7 @@ use mathlib.Core.Path.{refl}
 use Rattle.dwarf.specs.Bytes.{bytesOf, sizeOf, joined}
 use Rattle.dwarf.specs.Leb.{groups, sgroups, uleb, sleb}
 use Rattle.dwarf.specs.References.{references}
-use Rattle.rules.specs.Examples.{Forms, Codes, Refusals, Worked}
+use Rattle.rules.specs.Examples.{Forms, Codes, Wide, Limits, Refusals, Worked}
 use Rattle.rules.specs.Tree.{treeOf}
 
 forms : Forms
@@ -14,9 +14,17 @@ codes : Codes
 unfolding treeOf groups sgroups uleb sleb bytesOf sizeOf joined references
 codes = (refl, refl, refl, refl, refl, refl, refl, refl, refl, refl, refl, refl, refl, refl, refl, refl, refl, refl, refl, refl, refl, refl)
 
+wide : Wide
+unfolding treeOf groups sgroups uleb sleb bytesOf sizeOf joined references
+wide = (refl, refl)
+
+limits : Limits
+unfolding treeOf groups sgroups uleb sleb bytesOf sizeOf joined references
+limits = (refl, refl, refl, refl, refl, refl, refl, refl, refl, refl, refl, refl)
+
 refusals : Refusals
 unfolding treeOf groups sgroups uleb sleb bytesOf sizeOf joined references
 refusals = (refl, refl, refl, refl, refl, refl, refl, refl, refl, refl, refl, refl, refl, refl)
 
 pub worked : Worked
-worked = (forms, codes, refusals)
+worked = (forms, codes, wide, limits, refusals)

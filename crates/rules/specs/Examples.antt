@@ -4,6 +4,7 @@ use mathlib.Core.Bool.{true, false, cond}
 use mathlib.Core.List.{List, [], _∷_}
 use Prim.Native.Nat.{ℕ}
 use lib.Dec.{eqb}
+use lib.ListN.{length, replicate}
 use lib.IntN.{pos, negsuc}
 use Rattle.std.specs.declared.option.Option.{Option}
 use Rattle.std.specs.declared.option.Option.the-variants.{None, Some}
@@ -12,7 +13,7 @@ use Rattle.std.specs.declared.result.Result.the-variants.{Ok, Err}
 use Rattle.common.specs.declared.address.Address.the-variants as address
 use Rattle.common.specs.declared.encoding.Encoding.{Encoding}
 use Rattle.common.specs.declared.encoding.Register.{Register as RegisterNumber}
-use Rattle.common.specs.declared.encoding.Format.the-variants.{Dwarf32}
+use Rattle.common.specs.declared.encoding.Format.the-variants.{Dwarf32, Dwarf64}
 use Rattle.common.specs.declared.error.Error.{Error}
 use Rattle.common.specs.declared.error.Error.the-variants.{
   ValueTooLarge,
@@ -21,6 +22,8 @@ use Rattle.common.specs.declared.error.Error.the-variants.{
   InvalidReference,
   UnsupportedExpressionForwardReference,
   UnsupportedCfiExpressionReference,
+  BadTarget,
+  BranchOpen,
 }
 use Rattle.dwarf.specs.Bytes.{bytesOf}
 use Rattle.dwarf.specs.References.{references}
@@ -58,6 +61,7 @@ use Rattle.op.specs.declared.operation.Operation.the-variants.{
 }
 use Rattle.rules.specs.Results.{andThen}
 use Rattle.rules.specs.Encode.{encode}
+use Rattle.rules.specs.Operands.{displacementFrom}
 use Rattle.rules.specs.Scope.{Scope, inFrame, inUnit}
 use Rattle.rules.specs.Sizes.{sizeTree}
 use Rattle.rules.specs.Tree.{Expression, Store, Tree, end, plain, expressionTree}
@@ -80,6 +84,17 @@ written e t = andThen (encode e unit100 t) (λ a. Ok (bytesOf false a))
 -- the bytes of a frame expression
 abbrev pub framed : Encoding → Tree → Result (List ℕ) Error
 framed e t = andThen (encode e inFrame t) (λ a. Ok (bytesOf false a))
+
+abbrev pub dwarf64 : Encoding
+dwarf64 = record { «address_size» = 8; format = Dwarf64; version = 5 }
+
+-- a unit that starts at 0 and has every entry at an offset
+abbrev pub entryAt : ℕ → Scope
+entryAt offset = inUnit 0 (λ entry. Some offset)
+
+-- a typed constant of so many bytes
+abbrev pub typed : ℕ → Tree
+typed n = plain (ConstantType 3 (record { start = 0; len = n })) (replicate n 0x07) end
 
 -- operations without data in a row
 abbrev pub row : List Operation → Tree
@@ -141,6 +156,29 @@ Codes =
     × (written (dwarf32 2 1) (row (ImplicitPointer (debug.Entry 2 5) (pos 0) ∷ [])) ≡ Ok (0xf2 ∷ 0x00 ∷ 0x00 ∷ []))
     × (written (dwarf32 3 1) (row (ImplicitPointer (debug.Entry 2 5) (pos 0) ∷ [])) ≡ Ok (0xf2 ∷ 0x00 ∷ 0x00 ∷ 0x00 ∷ 0x00 ∷ 0x00 ∷ []))
 
+-- references in 64-bit DWARF
+abbrev pub Wide : Type 0
+Wide =
+    (written dwarf64 (row (CallRef (debug.Entry 2 5) ∷ [])) ≡ Ok (0x9a ∷ 0x00 ∷ 0x00 ∷ 0x00 ∷ 0x00 ∷ 0x00 ∷ 0x00 ∷ 0x00 ∷ 0x00 ∷ []))
+    × (written dwarf64 (row (ImplicitPointer (debug.Entry 2 5) (pos 0) ∷ []))
+    ≡ Ok (0xa0 ∷ 0x00 ∷ 0x00 ∷ 0x00 ∷ 0x00 ∷ 0x00 ∷ 0x00 ∷ 0x00 ∷ 0x00 ∷ 0x00 ∷ []))
+
+-- how far a branch leads, how much data a typed constant has, and which entry is called
+abbrev pub Limits : Type 0
+Limits =
+    (displacementFrom 3 32770 ≡ Ok (pos 32767))
+    × (displacementFrom 3 32771 ≡ Err ValueTooLarge)
+    × (displacementFrom 32768 0 ≡ Ok (negsuc 32767))
+    × (displacementFrom 32769 0 ≡ Err ValueTooLarge)
+    × (written version5 (row (Skip (Some 1) ∷ [])) ≡ Ok (0x2f ∷ 0x00 ∷ 0x00 ∷ []))
+    × (written version5 (row (Skip (Some 2) ∷ [])) ≡ Err BadTarget)
+    × (written version5 (row (Skip None ∷ [])) ≡ Err BranchOpen)
+    × (andThen (encode version5 unit100 (typed 255)) (λ a. Ok (length (bytesOf false a))) ≡ Ok 259)
+    × (sizeTree version5 unit100 (typed 256) ≡ Ok 260)
+    × (written version5 (typed 256) ≡ Err ValueTooLarge)
+    × (andThen (encode version5 (entryAt 4294967295) (row (Call 0 ∷ []))) (λ a. Ok (bytesOf false a)) ≡ Ok (0x99 ∷ 0xff ∷ 0xff ∷ 0xff ∷ 0xff ∷ []))
+    × (andThen (encode version5 (entryAt 4294967296) (row (Call 0 ∷ []))) (λ a. Ok (bytesOf false a)) ≡ Err ValueTooLarge)
+
 -- refusals and their order
 abbrev pub Refusals : Type 0
 Refusals =
@@ -164,4 +202,4 @@ Refusals =
     × (written (dwarf32 2 5) (row (ImplicitPointer (debug.Entry 2 5) (pos 0) ∷ [])) ≡ Err (UnsupportedWordSize 5))
 
 abbrev pub Worked : Type 0
-Worked = Forms × Codes × Refusals
+Worked = Forms × Codes × Wide × Limits × Refusals
