@@ -39,15 +39,17 @@ pushed x bs s = record { operations = set (s .operations) (s .opCount) x; bytes 
 abbrev pub withExpressions : List Expression → State → State
 withExpressions es s = record { operations = s .operations; bytes = s .bytes; expressions = es; opCount = s .opCount; byteCount = s .byteCount; sealedCount = s .sealedCount; start = s .start; byteStart = s .byteStart; drafting = s .drafting }
 
+-- a draft is opened: refused while one is open, then where 1,024 expressions are sealed
 abbrev pub begun : State → Result (Unit {0}) Error × State
 begun s = cond (s .drafting) (Err DraftState, s) (cond (ltb (s .sealedCount) 1024) (Ok tt, opened s) (Err BookFull, s))
 
+-- a draft is opened with bytes as its first operation: refused also where these do not fit
 abbrev pub rawBegun : List ℕ → State → Result (Unit {0}) Error × State
 rawBegun bs s = cond (s .drafting) (Err DraftState, s) (cond (ltb (s .sealedCount) 1024)
     (cond (fits (length bs) s) (Ok tt, pushed (op.Raw (place (length bs) s)) bs (opened s)) (Err BookFull, s))
     (Err BookFull, s))
 
--- an operation is added, with its data
+-- an operation is added, with its data: refused without a draft, then for a unit or entry that cannot exist, then where it does not fit
 abbrev pub added : Operation → List ℕ → State → Result (Unit {0}) Error × State
 added x bs s = cond (s .drafting) (cond (entriesFit x) (cond (fits (length bs) s) (Ok tt, pushed x bs s) (Err BookFull, s)) (Err BadEntry, s)) (Err DraftState, s)
 
@@ -59,10 +61,11 @@ nextIndex s = cond (s .drafting) (s .opCount - s .start) 0
 abbrev pub branched : Operation → State → Result ℕ Error × State
 branched x s = cond (s .drafting) (cond (fits 0 s) (Ok (s .opCount - s .start), pushed x [] s) (Err BookFull, s)) (Err DraftState, s)
 
--- an expression as one that an entry value holds, and as one that none holds
+-- an expression as one that an entry value holds
 abbrev pub marked : Expression → Expression
 marked e = record { start = e .start; count = e .count; depth = e .depth; weight = e .weight; nested = true }
 
+-- and as one that none holds
 abbrev pub unmarked : Expression → Expression
 unmarked e = record { start = e .start; count = e .count; depth = e .depth; weight = e .weight; nested = false }
 
@@ -70,6 +73,8 @@ unmarked e = record { start = e .start; count = e .count; depth = e .depth; weig
 abbrev pub taken : ℕ → Expression → State → State
 taken n e s = withExpressions (set (s .expressions) n (marked e)) (pushed (op.EntryValue n) [] s)
 
+-- the same with the expression looked up: refused where there is none, then where it is nested already, then past a depth of 16, then
+-- where the operation does not fit
 abbrev pub nestedAt : ℕ → Option Expression → State → Result (Unit {0}) Error × State
 nestedAt n None s = (Err NoExpression, s)
 nestedAt n (Some e) s = cond (e .nested) (Err InUse, s) (cond (ltb (e .depth) 16) (cond (fits 0 s) (Ok tt, taken n e s) (Err BookFull, s)) (Err TooDeep, s))
@@ -86,6 +91,7 @@ isBranch branch s = cond (ltb branch (s .opCount - s .start)) (unset (shape (opA
 abbrev pub aimed : ℕ → ℕ → State → State
 aimed branch target s = record { operations = set (s .operations) (s .start + branch) (aimedAt target (opAt s (s .start + branch))); bytes = s .bytes; expressions = s .expressions; opCount = s .opCount; byteCount = s .byteCount; sealedCount = s .sealedCount; start = s .start; byteStart = s .byteStart; drafting = s .drafting }
 
+-- a target is set: refused without a draft, then where the number is no branch without a target, or the target past the end or the branch
 abbrev pub targetSet : ℕ → ℕ → State → Result (Unit {0}) Error × State
 targetSet branch target s = cond (s .drafting)
     (cond (isBranch branch s) (cond (ltb (s .opCount - s .start) target) (Err BadTarget, s) (cond (eqb target branch) (Err BadTarget, s) (Ok tt, aimed branch target s))) (Err BadTarget, s))
@@ -99,6 +105,7 @@ newExpression s = record { start = s .start; count = s .opCount - s .start; dept
 abbrev pub shut : State → State
 shut s = record { operations = s .operations; bytes = s .bytes; expressions = set (s .expressions) (s .sealedCount) (newExpression s); opCount = s .opCount; byteCount = s .byteCount; sealedCount = s .sealedCount + 1; start = s .opCount; byteStart = s .byteCount; drafting = false }
 
+-- the draft is sealed, and the answer is the expression's number: refused without a draft, then where a branch has no target
 abbrev pub sealed : State → Result ℕ Error × State
 sealed s = cond (s .drafting) (cond (anyUnset (draft s)) (Err BranchOpen, s) (Ok (s .sealedCount), shut s)) (Err DraftState, s)
 
@@ -109,6 +116,7 @@ freedBy (Holding d) es = es
 freedBy (Branching t) es = es
 freedBy (Nesting n) es = set es n (unmarked (expressionOf es n))
 
+-- the same for all operations of a list
 abbrev pub freed : List Operation → List Expression → List Expression
 freed [] es = es
 freed (x ∷ xs) es = freed xs (freedBy (shape x) es)
@@ -117,6 +125,7 @@ freed (x ∷ xs) es = freed xs (freedBy (shape x) es)
 abbrev pub withdrawn : State → State
 withdrawn s = record { operations = s .operations; bytes = s .bytes; expressions = freed (draft s) (s .expressions); opCount = s .start; byteCount = s .byteStart; sealedCount = s .sealedCount; start = s .start; byteStart = s .byteStart; drafting = false }
 
+-- the draft is discarded: refused without one
 abbrev pub discarded : State → Result (Unit {0}) Error × State
 discarded s = cond (s .drafting) (Ok tt, withdrawn s) (Err DraftState, s)
 
@@ -125,6 +134,7 @@ abbrev pub rawBytes : Option Data → State → Option (List ℕ)
 rawBytes None s = None
 rawBytes (Some d) s = Some (slice (s .bytes) (d .start) (d .len))
 
+-- those of an expression that was looked up
 abbrev pub asRawAt : Option Expression → State → Option (List ℕ)
 asRawAt None s = None
 asRawAt (Some e) s = cond (eqb (e .count) 1) (rawBytes (rawPlace (opAt s (e .start))) s) None

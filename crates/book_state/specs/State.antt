@@ -30,6 +30,7 @@ pub record State : Type 0 where
 abbrev pub noOperation : Operation
 noOperation = op.Raw (record { start = 0; len = 0 })
 
+-- the same for expressions; a new book's are all so
 abbrev pub noExpression : Expression
 noExpression = record { start = 0; count = 0; depth = 0; weight = 0; nested = false }
 
@@ -45,6 +46,7 @@ opAt s p = getD (s .operations) p noOperation
 abbrev pub expressionOf : List Expression → ℕ → Expression
 expressionOf es k = getD es k noExpression
 
+-- the expression of a number in a book
 abbrev pub expressionAt : State → ℕ → Expression
 expressionAt s k = expressionOf (s .expressions) k
 
@@ -95,6 +97,7 @@ dataBy (Holding d) = d .len
 dataBy (Branching t) = 0
 dataBy (Nesting m) = 0
 
+-- the bytes of their data
 abbrev pub dataOf : List Operation → ℕ
 dataOf = gathered _+_ (λ x. dataBy (shape x))
 
@@ -105,6 +108,7 @@ nestedBy es (Holding d) = 0
 nestedBy es (Branching t) = 0
 nestedBy es (Nesting m) = expressionOf es m .weight
 
+-- the weight of all expressions that they nest
 abbrev pub nestedOf : List Expression → List Operation → ℕ
 nestedOf es = gathered _+_ (λ x. nestedBy es (shape x))
 
@@ -113,5 +117,6 @@ nestedOf es = gathered _+_ (λ x. nestedBy es (shape x))
 abbrev pub weightBy : List Expression → Shape → ℕ
 weightBy es h = 266 + dataBy h + nestedBy es h
 
+-- the weight of an expression of these operations
 abbrev pub weightOf : List Expression → List Operation → ℕ
 weightOf es = gathered _+_ (λ x. weightBy es (shape x))

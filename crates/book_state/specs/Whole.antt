@@ -78,10 +78,11 @@ Used s = (m : ℕ) → expressionAt s m .nested ≡ true → ∥ ((p : ℕ) × (
 abbrev pub Once : State → Type 0
 Once s = (p q m : ℕ) → p < q → q < s .opCount → shape (opAt s p) ≡ Nesting m → shape (opAt s q) ≡ Nesting m → ⊥
 
--- a sealed expression's depth and weight are those of its operations
+-- a sealed expression's depth is that of its operations
 abbrev pub Deep : State → Type 0
 Deep s = (k : ℕ) → k < s .sealedCount → expressionAt s k .depth ≡ depthOf (s .expressions) (operationsOf s k)
 
+-- and so is its weight
 abbrev pub Weighed : State → Type 0
 Weighed s = (k : ℕ) → k < s .sealedCount → expressionAt s k .weight ≡ weightOf (s .expressions) (operationsOf s k)
 
@@ -94,6 +95,7 @@ abbrev pub roots : List Expression → ℕ
 roots [] = 0
 roots (e ∷ es) = own e + roots es
 
+-- what every book keeps
 pub record Whole (s : State) : Type 0 where
   pub counted : Counted s
   pub ends : Ends s
