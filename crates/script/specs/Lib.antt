@@ -6,5 +6,4 @@ pub mod Verbs
 pub mod Commands
 pub mod Stages
 pub mod Items
-pub mod Endings
-pub mod Answers
+pub mod Readers

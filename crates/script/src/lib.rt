@@ -1,16 +1,12 @@
-//! The link script: its text, its commands, and a run of it.
+//! The link script: its text, its commands and their order.
 
-pub mod answer;
 pub mod command;
 pub mod fault;
 pub mod hex;
 pub mod item;
 pub mod number;
-pub mod operand;
-pub mod output;
+mod operand;
 pub mod reader;
-pub mod run;
-pub mod shown;
 pub mod stage;
 pub mod text;
 pub mod verb;

@@ -17,7 +17,7 @@ use crate::text::next_word;
 use common::endianity::RunTimeEndian;
 
 /// That no word is left.
-pub fn no_word(text: &[u8]) -> Result<(), Fault>
+pub(crate) fn no_word(text: &[u8]) -> Result<(), Fault>
     ensures { λ r. ⌜ okPart r ≡ alone tt (wordsIn (now (text .entry))) ⌝ }
 {
     match next_word(text) {
@@ -27,7 +27,7 @@ pub fn no_word(text: &[u8]) -> Result<(), Fault>
 }
 
 /// The only word that is left.
-pub fn one_word(text: &[u8]) -> Result<&[u8], Fault>
+pub(crate) fn one_word(text: &[u8]) -> Result<&[u8], Fault>
     ensures { λ r. ⌜ mapped now (okPart r) ≡ single Some (wordsIn (now (text .entry))) ⌝ }
 {
     let Some(split) = next_word(text) else {
@@ -38,7 +38,7 @@ pub fn one_word(text: &[u8]) -> Result<&[u8], Fault>
 }
 
 /// The two words that are left.
-pub fn two_words(text: &[u8]) -> Result<Split<'_>, Fault>
+pub(crate) fn two_words(text: &[u8]) -> Result<Split<'_>, Fault>
     ensures { λ r. ⌜ mapped parts (okPart r) ≡ double (λ v w. Some (v, w)) (wordsIn (now (text .entry))) ⌝ }
 {
     let Some(split) = next_word(text) else {
@@ -52,21 +52,21 @@ pub fn two_words(text: &[u8]) -> Result<Split<'_>, Fault>
 }
 
 /// A word that is a number of 64 bits.
-pub fn number(word: &[u8]) -> Result<u64, Fault>
+pub(crate) fn number(word: &[u8]) -> Result<u64, Fault>
     ensures { λ r. ⌜ okPart r ≡ number64 (now (word .entry)) ⌝ }
 {
     unsigned(word, u64::MAX).ok_or(Fault::BadNumber)
 }
 
 /// A word that writes bytes.
-pub fn bytes(word: &[u8]) -> Result<Hex<'_>, Fault>
+pub(crate) fn bytes(word: &[u8]) -> Result<Hex<'_>, Fault>
     ensures { λ r. ⌜ mapped denoted (okPart r) ≡ hexOf (now (word .entry)) ⌝ }
 {
     Hex::parse(word).ok_or(Fault::BadBytes)
 }
 
 /// A word that names a byte order.
-pub fn order(word: &[u8]) -> Result<RunTimeEndian, Fault>
+pub(crate) fn order(word: &[u8]) -> Result<RunTimeEndian, Fault>
     ensures { λ r. ⌜ okPart r ≡ orderOf (now (word .entry)) ⌝ }
 {
     if is(word, b"little") {

@@ -101,14 +101,14 @@ pub fn next_word(text: &[u8]) -> Option<Split<'_>>
 }
 
 /// What follows a prefix of a word.
-pub fn strip<'a>(word: &'a [u8], prefix: &[u8]) -> Option<&'a [u8]>
+pub(crate) fn strip<'a>(word: &'a [u8], prefix: &[u8]) -> Option<&'a [u8]>
     ensures { λ r. ⌜ mapped now r ≡ stripped (now (prefix .entry)) (now (word .entry)) ⌝ }
 {
     word.strip_prefix(prefix)
 }
 
 /// Whether a word is a keyword.
-pub fn is(word: &[u8], keyword: &[u8]) -> bool
+pub(crate) fn is(word: &[u8], keyword: &[u8]) -> bool
     ensures { λ r. ⌜ r ≡ sameBytes (now (word .entry)) (now (keyword .entry)) ⌝ }
 {
     word == keyword

@@ -6,8 +6,8 @@ use Rattle.std.specs.declared.result.Result.{Result}
 use Rattle.std.specs.declared.result.Result.the-variants.{Ok, Err}
 use Rattle.common.specs.declared.error.Error.{Error}
 use Rattle.writer.specs.Meaning.{Sink, appendAnswer, appended}
-use Rattle.script.specs.declared.answer.Answer.{Answer}
-use Rattle.script.specs.declared.answer.Answer.the-variants.{Refused}
+use Rattle.runner.specs.declared.answer.Answer.{Answer}
+use Rattle.runner.specs.declared.answer.Answer.the-variants.{Refused}
 
 -- the answer of a call that answers nothing
 abbrev pub answered : Answer → Result (Unit {0}) Error → Answer

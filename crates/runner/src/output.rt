@@ -2,9 +2,9 @@
 
 use crate::answer::Answer;
 use crate::answer::AnswerDisplay;
-use crate::fault::Fault;
 use crate::shown::Shown;
-use crate::verb::Verb;
+use script::fault::Fault;
+use script::verb::Verb;
 use std::alloc::AllocError;
 use std::alloc::Global;
 use std::fmt;

@@ -2,32 +2,32 @@
 
 ghost use mathlib.Core.Path.{_≡_};
 ghost use Prim.Native.Nat.{ℕ, _≤_, _<_};
-ghost use lib.ListN.{length};
 ghost use Rattle.std.specs.Options.{Cases};
 ghost use Rattle.std.specs.Vec.{made};
 ghost use Rattle.script.specs.Bytes.{denoted};
-ghost use Rattle.script.specs.Answers.{Written};
-ghost use Rattle.script.specs.Endings.{Ends};
+ghost use Rattle.script.specs.Readers.{left};
+ghost use Rattle.runner.specs.Answers.{Written};
+ghost use Rattle.runner.specs.Endings.{Ends};
 use crate::answer::Answer;
-use crate::command::BookLengths;
-use crate::command::Command;
-use crate::command::SinkKind;
-use crate::fault::Fault;
-use crate::hex::Hex;
-use crate::item::Item;
 use crate::output::OutOfMemory;
 use crate::output::OutOfMemoryFromAlloc;
 use crate::output::print_answer;
 use crate::output::print_bytes;
 use crate::output::print_fault;
-use crate::reader::Reader;
 use crate::shown::BufferShown;
 use crate::shown::Shown;
 use crate::shown::WordShown;
-use crate::stage::Stage;
-use crate::verb::Verb;
 use common::endianity::RunTimeEndian;
 use common::error::Error;
+use script::command::BookLengths;
+use script::command::Command;
+use script::command::SinkKind;
+use script::fault::Fault;
+use script::hex::Hex;
+use script::item::Item;
+use script::reader::Reader;
+use script::stage::Stage;
+use script::verb::Verb;
 use sinks::buffer::BufferSink;
 use sinks::buffer::BufferWriter;
 use sinks::words::WordSink;
@@ -95,7 +95,7 @@ fn with_line(setup: Setup, command: Command<'_>) -> Option<Setup> {
 
 /// Reads the next line if it makes the sink or the book.
 fn read_making(setup: Setup, reader: &mut Reader<'_>) -> Option<Setup>
-    ensures { λ r. ⌜ Cases r (length (now (now (reader .exit) .rest)) ≤ length (now (now (reader .entry) .rest))) (λ _. length (now (now (reader .exit) .rest)) < length (now (now (reader .entry) .rest))) ⌝ }
+    ensures { λ r. ⌜ Cases r (left (now (reader .exit)) ≤ left (now (reader .entry))) (λ _. left (now (reader .exit)) < left (now (reader .entry))) ⌝ }
 {
     let mut ahead = *reader;
     let item = ahead.next()?;
@@ -106,7 +106,7 @@ fn read_making(setup: Setup, reader: &mut Reader<'_>) -> Option<Setup>
 
 /// Reads the lines that make the sink and the book.
 fn set_up(reader: &mut Reader<'_>) -> Setup
-    ensures { λ _. ⌜ length (now (now (reader .exit) .rest)) ≤ length (now (now (reader .entry) .rest)) ⌝ }
+    ensures { λ _. ⌜ left (now (reader .exit)) ≤ left (now (reader .entry)) ⌝ }
 {
     let mut setup = unmade();
     while let Some(next) = read_making(setup, reader) {
@@ -196,7 +196,7 @@ fn run_calls<W: Writer + Shown>(
     reader: &mut Reader<'_>,
     out: &mut String,
 ) -> Result<Ending, OutOfMemory>
-    ensures { λ r. ⌜ made r (λ e. Ends e (length (now (now (reader .entry) .rest))) (length (now (now (reader .exit) .rest)))) ⌝ }
+    ensures { λ r. ⌜ made r (λ e. Ends e (left (now (reader .entry))) (left (now (reader .exit)))) ⌝ }
 {
     let mut setup = setup;
     while let Some(item) = reader.next() {
@@ -209,7 +209,7 @@ fn run_calls<W: Writer + Shown>(
 
 /// Carries out a part of the script, up to a line that starts afresh.
 fn run_part(heap: Global, reader: &mut Reader<'_>, out: &mut String) -> Result<Ending, OutOfMemory>
-    ensures { λ r. ⌜ made r (λ e. Ends e (length (now (now (reader .entry) .rest))) (length (now (now (reader .exit) .rest)))) ⌝ }
+    ensures { λ r. ⌜ made r (λ e. Ends e (left (now (reader .entry))) (left (now (reader .exit)))) ⌝ }
 {
     let setup = set_up(reader);
     match setup.sink {

@@ -1,8 +1,8 @@
 //! What a call answers, as it is printed.
 
-use crate::fault::Fault;
-use crate::verb::Verb;
 use common::error::Error;
+use script::fault::Fault;
+use script::verb::Verb;
 use std::alloc::AllocError;
 use std::fmt;
 
