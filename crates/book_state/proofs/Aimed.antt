@@ -1,10 +1,9 @@
 -- A branch of the draft gets its target.
-use Prim.Native.Nat.{ℕ, max, min, _+_, _-_, _<_, _≤_}
+use Prim.Native.Nat.{ℕ, max, _+_, _-_, _<_, _≤_}
 use mathlib.Core.Path.{_≡_, refl, sym, ap, subst, _∙_}
 use mathlib.Core.Logic.{⊎-elim, ∥∥₁-map}
 use mathlib.Core.Bool.{true, false}
-use mathlib.Core.List.{List}
-use lib.ListN.{set, length, length-set}
+use lib.ListN.{length-set}
 use native.Mathlib.Omega.{arith}
 use Rattle.std.proofs.shelf.Lists.{getD-set-same, getD-set-other}
 use Rattle.std.proofs.shelf.Tests.{cases-eq, le-leb}
@@ -13,9 +12,9 @@ use Rattle.op.specs.declared.operation.Operation.{Operation}
 use Rattle.book_state.specs.declared.shape.Shape.{Shape}
 use Rattle.book_state.specs.declared.shape.Shape.the-variants.{Branching, Nesting}
 use Rattle.book_state.specs.Operations.{shape, entriesFit, aimedAt, unset}
-use Rattle.book_state.specs.State.{State, opAt, expressionAt, noOperation, slice, draft, gathered, depthBy, depthOf, dataBy, dataOf, weightBy, weightOf}
+use Rattle.book_state.specs.State.{State, opAt, expressionAt, noOperation, slice, draft, gathered, depthBy, depthOf, dataBy, weightBy, weightOf}
 use Rattle.book_state.specs.Calls.{aimed}
-use Rattle.book_state.specs.Whole.{Counted, inOrder, Closed, Drafted, Named, Flagged, Used, Once, Whole}
+use Rattle.book_state.specs.Whole.{inOrder, Closed, Drafted, Named, Flagged, Used, Once, Whole}
 use Rattle.book_state.proofs.Slices.{slice-behind, slice-same}
 use Rattle.book_state.proofs.Shapes.{unset-is, aimed-shape, aimed-named}
 

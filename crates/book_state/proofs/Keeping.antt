@@ -1,11 +1,10 @@
 -- Every call keeps a book whole.
-use Prim.Native.Nat.{ℕ, min, _+_, _-_, _<_, _≤_}
+use Prim.Native.Nat.{ℕ, min, _-_, _<_, _≤_}
 use mathlib.Core.Path.{_≡_, refl, sym, ap, subst, _∙_}
 use mathlib.Core.Bool.{Bool, true, false, cond}
 use mathlib.Core.List.{List, []}
 use lib.ListN.{length}
-use lib.Dec.{leb, ltb, eqb}
-use native.Mathlib.Omega.{arith}
+use lib.Dec.{ltb, eqb}
 use Rattle.std.proofs.shelf.Tests.{ltb-true, ltb-false, leb-true}
 use Rattle.std.specs.declared.option.Option.{Option}
 use Rattle.std.specs.declared.option.Option.the-variants.{Some, None}
@@ -16,7 +15,7 @@ use Rattle.op.specs.declared.operation.Operation.the-variants as op
 use Rattle.list.proofs.Places.{item-some}
 use Rattle.book_state.specs.declared.expression.Expression.{Expression}
 use Rattle.book_state.specs.Operations.{shape, entriesFit, anyUnset}
-use Rattle.book_state.specs.State.{State, expressionAt, noExpression, sealedAt, draft, fits, place}
+use Rattle.book_state.specs.State.{State, noExpression, sealedAt, draft, fits, place}
 use Rattle.book_state.specs.Calls.{begun, rawBegun, added, branched, nestedAt, nested, isBranch, targetSet, sealed, discarded, taken}
 use Rattle.book_state.specs.Whole.{Bare, Whole}
 use Rattle.book_state.proofs.Opened.{keep-opened}

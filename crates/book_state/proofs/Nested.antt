@@ -1,11 +1,10 @@
 -- A nested expression is less deep and weighs less than the one that holds it.
 use Prim.Native.Nat.{ℕ, zero, suc, max, _+_, _<_, _≤_}
-use mathlib.Core.Path.{_≡_, refl, sym, ap, subst, _∙_}
+use mathlib.Core.Path.{_≡_, ap, _∙_}
 use mathlib.Core.List.{List, [], _∷_}
 use lib.ListN.{length, getD}
 use native.Mathlib.Omega.{arith}
 use Rattle.op.specs.declared.operation.Operation.{Operation}
-use Rattle.book_state.specs.declared.shape.Shape.{Shape}
 use Rattle.book_state.specs.declared.shape.Shape.the-variants.{Nesting}
 use Rattle.book_state.specs.Operations.{shape}
 use Rattle.book_state.specs.State.{State, opAt, expressionAt, operationsOf, noOperation, gathered, depthBy, weightBy}

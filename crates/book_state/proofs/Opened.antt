@@ -1,19 +1,18 @@
 -- A new book, and a draft that is opened.
-use Prim.Native.Nat.{ℕ, zero, suc, _+_, _-_, _*_, _<_, _≤_}
+use Prim.Native.Nat.{ℕ, _<_, _≤_}
 use mathlib.Core.Path.{_≡_, refl, sym, ap, subst, _∙_}
 use mathlib.Core.Logic.{⊎-elim}
 use mathlib.Core.Bool.{true, false}
-use mathlib.Core.List.{List, []}
-use lib.ListN.{length, getD, replicate, length-replicate}
+use mathlib.Core.List.{List}
+use lib.ListN.{replicate, length-replicate}
 use native.Mathlib.Omega.{arith}
 use Rattle.std.proofs.shelf.Lists.{getD-replicate, getD-past}
 use Rattle.std.proofs.shelf.Tests.{cases-lt}
 use Rattle.op.specs.declared.operation.Operation.{Operation}
 use Rattle.book_state.specs.declared.expression.Expression.{Expression}
-use Rattle.book_state.specs.State.{State, fresh, expressionOf, noExpression, draft, depthOf, dataOf, weightOf}
+use Rattle.book_state.specs.State.{State, fresh, expressionOf, noExpression, draft}
 use Rattle.book_state.specs.Calls.{opened}
 use Rattle.book_state.specs.Whole.{Whole}
-use Rattle.book_state.proofs.Slices.{slice-none}
 
 none-there : (k : ℕ) → expressionOf (replicate 1024 noExpression) k ≡ noExpression
 none-there k = ⊎-elim

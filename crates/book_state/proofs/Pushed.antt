@@ -1,21 +1,19 @@
 -- An operation and its data are added to a draft.
-use Prim.Native.Nat.{ℕ, max, min, _+_, _-_, _*_, _<_, _≤_}
-use mathlib.Core.Path.{_≡_, refl, sym, ap, subst, _∙_}
+use Prim.Native.Nat.{ℕ, min, _+_, _-_, _<_, _≤_}
+use mathlib.Core.Path.{_≡_, sym, ap, subst, _∙_}
 use mathlib.Core.Logic.{⊎-elim, ∥∥₁-map}
-use mathlib.Core.Bool.{Bool, true, false}
+use mathlib.Core.Bool.{true, false}
 use mathlib.Core.List.{List, [], _∷_, _++_}
-use lib.ListN.{getD, set, take, drop, length, length-set, length-take, length-drop, length-append}
+use lib.ListN.{set, length, length-set, length-take, length-drop, length-append}
 use native.Mathlib.Omega.{arith}
 use Rattle.std.proofs.shelf.Lists.{getD-set-same, getD-set-other}
 use Rattle.std.proofs.shelf.Tests.{cases-eq}
 use Rattle.op.specs.declared.operation.Operation.{Operation}
-use Rattle.book_state.specs.declared.expression.Expression.{Expression}
-use Rattle.book_state.specs.declared.shape.Shape.{Shape}
 use Rattle.book_state.specs.declared.shape.Shape.the-variants.{Nesting}
 use Rattle.book_state.specs.Operations.{shape, entriesFit}
 use Rattle.book_state.specs.State.{State, opAt, expressionAt, noOperation, slice, draft, depthBy, depthOf, dataBy, dataOf, weightBy, weightOf}
 use Rattle.book_state.specs.Calls.{overwritten, pushed}
-use Rattle.book_state.specs.Whole.{Counted, inOrder, Bare, Ends, Closed, Drafted, Named, Flagged, Used, Once, Deep, Weighed, Whole}
+use Rattle.book_state.specs.Whole.{Counted, inOrder, Bare, Closed, Drafted, Named, Flagged, Once, Whole}
 use Rattle.book_state.proofs.Slices.{slice-behind, slice-push, sum-push, max-push}
 use Rattle.book_state.proofs.Shapes.{order-more, bare-order, bare-flat, bare-data, bare-depth, bare-nested}
 

@@ -1,6 +1,5 @@
 -- To be whole is a fact that has one proof at most, so it is got back where it was only known to hold.
-use Prim.Native.Nat.{ℕ, _<_, _≤_}
-use mathlib.Core.Path.{_≡_, refl}
+use mathlib.Core.Path.{_≡_}
 use mathlib.Core.Logic.{∥∥₁-elim, ∥∥₁-prop}
 use mathlib.Core.Bool.{Bool-set}
 use native.Mathlib.Nat.{ℕ-set}

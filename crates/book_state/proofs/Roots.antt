@@ -1,6 +1,6 @@
 -- The weight of the expressions that no entry value holds.
 use Prim.Native.Nat.{ℕ, zero, suc, _+_, _*_, _<_, _≤_}
-use mathlib.Core.Path.{_≡_, refl, sym, ap, subst, _∙_}
+use mathlib.Core.Path.{_≡_, refl, sym, ap, _∙_}
 use mathlib.Core.Logic.{⊎-elim}
 use mathlib.Core.Bool.{Bool, true, false, cond}
 use mathlib.Core.List.{List, [], _∷_, _++_}
@@ -13,7 +13,7 @@ use Rattle.book_state.specs.declared.expression.Expression.{Expression}
 use Rattle.book_state.specs.declared.shape.Shape.{Shape}
 use Rattle.book_state.specs.declared.shape.Shape.the-variants.{Plain, Holding, Branching, Nesting}
 use Rattle.book_state.specs.Operations.{shape}
-use Rattle.book_state.specs.State.{expressionOf, noExpression, noOperation, gathered, dataBy, dataOf, nestedBy, nestedOf, weightOf}
+use Rattle.book_state.specs.State.{expressionOf, noExpression, noOperation, dataOf, nestedBy, nestedOf, weightOf}
 use Rattle.book_state.specs.Calls.{marked, unmarked, freed, freedBy}
 use Rattle.book_state.specs.Whole.{own, roots}
 use Rattle.book_state.proofs.Slices.{gathered-ext}
@@ -72,7 +72,7 @@ pub kept-freed : (xs : List Operation) (es : List Expression) (k : ℕ) → unma
 kept-freed [] es k = refl
 kept-freed (x ∷ xs) es k = kept-freed xs (freedBy (shape x) es) k ∙ kept-one (shape x) es k
 
-length-one : (h : Shape) (es : List Expression) → length (freedBy h es) ≡ length es
+pub length-one : (h : Shape) (es : List Expression) → length (freedBy h es) ≡ length es
 length-one Plain es = refl
 length-one (Holding d) es = refl
 length-one (Branching t) es = refl

@@ -1,14 +1,12 @@
 -- What follows from an operation's shape.
-use Prim.Native.Nat.{ℕ, min, _+_, _<_, _≤_}
-use mathlib.Core.Path.{_≡_, refl, sym, ap, subst, _∙_}
+use Prim.Native.Nat.{ℕ, min, _+_, _≤_}
+use mathlib.Core.Path.{_≡_, refl, sym, ap}
 use mathlib.Core.Bool.{Bool, true, false}
 use mathlib.Core.List.{List, [], _∷_}
-use lib.ListN.{length, getD, set}
-use lib.Dec.{leb, ltb}
+use lib.ListN.{length, set}
 use native.Mathlib.Omega.{arith}
 use Rattle.std.proofs.shelf.Tests.{leb-true, le-leb, ltb-true}
 use Rattle.std.proofs.shelf.Lists.{getD-set-other}
-use Rattle.std.specs.declared.option.Option.{Option}
 use Rattle.std.specs.declared.option.Option.the-variants.{Some, None}
 use Rattle.op.specs.declared.operation.Data.{Data}
 use Rattle.op.specs.declared.operation.Operation.{Operation}
@@ -17,7 +15,7 @@ use Rattle.book_state.specs.declared.expression.Expression.{Expression}
 use Rattle.book_state.specs.declared.shape.Shape.{Shape}
 use Rattle.book_state.specs.declared.shape.Shape.the-variants.{Plain, Holding, Branching, Nesting}
 use Rattle.book_state.specs.Operations.{shape, entriesFit, aimedAt, unset, rawPlace}
-use Rattle.book_state.specs.State.{State, expressionOf, noExpression, place, depthBy, dataBy, nestedBy, weightBy}
+use Rattle.book_state.specs.State.{State, expressionOf, noExpression, depthBy, dataBy, nestedBy, weightBy}
 use Rattle.book_state.specs.Calls.{unmarked}
 use Rattle.book_state.specs.Whole.{inOrder, targetIn, Bare}
 

@@ -1,19 +1,18 @@
 -- A draft is sealed.
-use Prim.Native.Nat.{ℕ, zero, suc, max, min, _+_, _-_, _*_, _<_, _≤_}
+use Prim.Native.Nat.{ℕ, zero, suc, max, _+_, _-_, _<_, _≤_}
 use mathlib.Core.Path.{_≡_, refl, sym, ap, subst, _∙_}
 use mathlib.Core.Logic.{⊎-elim}
 use mathlib.Core.Bool.{Bool, true, false, cond}
 use mathlib.Core.List.{List, [], _∷_}
-use lib.ListN.{getD, set, take, length, length-set}
+use lib.ListN.{getD, set, length, length-set}
 use native.Mathlib.Omega.{arith}
 use Rattle.std.proofs.shelf.Lists.{getD-set-same, getD-set-other}
 use Rattle.std.proofs.shelf.Tests.{cases-eq}
 use Rattle.op.specs.declared.operation.Operation.{Operation}
 use Rattle.book_state.specs.declared.expression.Expression.{Expression}
-use Rattle.book_state.specs.declared.shape.Shape.{Shape}
 use Rattle.book_state.specs.declared.shape.Shape.the-variants.{Nesting}
 use Rattle.book_state.specs.Operations.{shape, unset, anyUnset}
-use Rattle.book_state.specs.State.{State, opAt, expressionAt, noExpression, noOperation, slice, draft, gathered, depthBy, depthOf, dataOf, weightBy, weightOf}
+use Rattle.book_state.specs.State.{State, opAt, expressionAt, noExpression, noOperation, slice, draft, depthBy, depthOf, dataOf, weightBy, weightOf}
 use Rattle.book_state.specs.Calls.{newExpression, shut}
 use Rattle.book_state.specs.Whole.{Counted, inOrder, Ends, Closed, Flagged, Used, Deep, Weighed, Whole}
 use Rattle.book_state.proofs.Slices.{length-slice, slice-at, slice-none, slice-same}

@@ -1,8 +1,8 @@
 -- Parts of a table, and what is gathered over them.
 use Prim.Native.Nat.{ℕ, zero, suc, max, _+_, _-_, _<_, _≤_}
-use mathlib.Core.Path.{_≡_, refl, sym, ap, subst, _∙_}
+use mathlib.Core.Path.{_≡_, refl, sym, ap, _∙_}
 use mathlib.Core.List.{List, [], _∷_, _++_}
-use lib.ListN.{getD, set, take, drop, length, length-set, length-drop}
+use lib.ListN.{getD, set, take, drop, length, length-drop}
 use native.Mathlib.Omega.{arith}
 use Rattle.std.proofs.shelf.Lists.{drop-more, getD-take, getD-drop, drop-all, length-take-le, drop-set-add, take-set-le, take-more-set}
 use Rattle.op.specs.declared.operation.Operation.{Operation}

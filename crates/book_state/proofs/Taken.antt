@@ -3,7 +3,7 @@ use Prim.Native.Nat.{ℕ, max, min, _+_, _-_, _*_, _<_, _≤_}
 use mathlib.Core.Path.{_≡_, refl, sym, ap, subst, _∙_}
 use mathlib.Core.Logic.{⊎-elim}
 use mathlib.Core.Bool.{Bool, true, false}
-use mathlib.Core.List.{List, [], _∷_}
+use mathlib.Core.List.{List, []}
 use lib.ListN.{set, length, length-set, take}
 use native.Mathlib.Omega.{arith}
 use Rattle.std.proofs.shelf.Lists.{getD-set-same, getD-set-other}
@@ -11,12 +11,11 @@ use Rattle.std.proofs.shelf.Tests.{cases-eq, lt-ltb}
 use Rattle.op.specs.declared.operation.Operation.{Operation}
 use Rattle.op.specs.declared.operation.Operation.the-variants as op
 use Rattle.book_state.specs.declared.expression.Expression.{Expression}
-use Rattle.book_state.specs.declared.shape.Shape.{Shape}
 use Rattle.book_state.specs.declared.shape.Shape.the-variants.{Nesting}
 use Rattle.book_state.specs.Operations.{shape}
 use Rattle.book_state.specs.State.{State, opAt, expressionOf, expressionAt, noExpression, slice, draft, depthBy, depthOf, dataBy, dataOf, weightBy, weightOf}
 use Rattle.book_state.specs.Calls.{pushed, marked, unmarked, taken}
-use Rattle.book_state.specs.Whole.{Counted, inOrder, roots, Ends, Closed, Drafted, Flagged, Used, Once, Whole}
+use Rattle.book_state.specs.Whole.{Counted, inOrder, roots, Closed, Flagged, Used, Once, Whole}
 use Rattle.book_state.proofs.Slices.{gathered-ext, sum-push, max-push}
 use Rattle.book_state.proofs.Shapes.{depth-kept, weight-kept}
 use Rattle.book_state.proofs.Pushed.{last, before, pushed-counted, pushed-closed, pushed-drafted, pushed-named, pushed-used, draft-pushed, sealed-pushed}

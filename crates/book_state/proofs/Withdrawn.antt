@@ -2,14 +2,13 @@
 use Prim.Native.Nat.{ℕ, max, _+_, _-_, _*_, _<_, _≤_}
 use mathlib.Core.Path.{_≡_, refl, sym, ap, subst, _∙_}
 use mathlib.Core.Logic.{⊎-elim, ∥∥₁-map}
-use mathlib.Core.Bool.{Bool, true, false}
+use mathlib.Core.Bool.{true, false}
 use mathlib.Core.List.{List, []}
 use lib.ListN.{getD, take, length}
 use native.Mathlib.Omega.{arith}
 use Rattle.std.proofs.shelf.Tests.{cases-lt, cases-bool}
 use Rattle.op.specs.declared.operation.Operation.{Operation}
 use Rattle.book_state.specs.declared.expression.Expression.{Expression}
-use Rattle.book_state.specs.declared.shape.Shape.{Shape}
 use Rattle.book_state.specs.declared.shape.Shape.the-variants.{Nesting}
 use Rattle.book_state.specs.Operations.{shape}
 use Rattle.book_state.specs.State.{State, opAt, expressionOf, expressionAt, noOperation, slice, draft, depthBy, depthOf, dataOf, weightBy, weightOf}

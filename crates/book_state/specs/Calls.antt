@@ -1,5 +1,5 @@
 -- What each call of a book answers and leaves, its refusals in the order in which they are tried.
-use Prim.Native.Nat.{ℕ, min, _+_, _-_}
+use Prim.Native.Nat.{ℕ, _+_, _-_}
 use mathlib.Core.Bool.{Bool, true, false, cond}
 use mathlib.Core.List.{List, [], _∷_, _++_}
 use lib.ListN.{length, set, take, drop}

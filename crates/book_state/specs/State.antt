@@ -1,7 +1,7 @@
 -- What a book holds.
 use Prim.Native.Nat.{ℕ, max, min, _+_, _-_}
-use mathlib.Core.Bool.{Bool, true, false, cond}
-use mathlib.Core.List.{List, [], _∷_, _++_}
+use mathlib.Core.Bool.{Bool, false, cond}
+use mathlib.Core.List.{List, [], _∷_}
 use lib.ListN.{length, getD, take, drop, replicate}
 use lib.Dec.{ltb, leb}
 use Rattle.std.specs.declared.option.Option.{Option}

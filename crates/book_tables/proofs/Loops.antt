@@ -1,17 +1,16 @@
 -- Turns of the loops over a draft's operations.
-use Prim.Native.Nat.{ℕ, max, _+_, _-_, _<_, _≤_}
-use mathlib.Core.Path.{_≡_, refl, sym, ap, _∙_}
+use Prim.Native.Nat.{ℕ, _+_, _-_, _<_, _≤_}
+use mathlib.Core.Path.{_≡_, sym, ap, _∙_}
 use mathlib.Core.Bool.{Bool, true, false, cond}
 use mathlib.Core.List.{List, [], _∷_}
-use lib.ListN.{drop, length, length-set}
+use lib.ListN.{drop, length}
 use native.Mathlib.Omega.{arith}
 use Rattle.op.specs.declared.operation.Operation.{Operation}
 use Rattle.book_state.specs.declared.expression.Expression.{Expression}
-use Rattle.book_state.specs.declared.shape.Shape.{Shape}
-use Rattle.book_state.specs.declared.shape.Shape.the-variants.{Plain, Holding, Branching, Nesting}
 use Rattle.book_state.specs.Operations.{shape, unset, anyUnset}
-use Rattle.book_state.specs.State.{State, opAt, draft, gathered, noOperation, expressionOf}
-use Rattle.book_state.specs.Calls.{freed, freedBy, withExpressions, unmarked}
+use Rattle.book_state.specs.State.{State, opAt, draft, gathered, noOperation}
+use Rattle.book_state.specs.Calls.{freed, freedBy, withExpressions}
+use Rattle.book_state.proofs.Roots.{length-one}
 use Rattle.book_state.proofs.Slices.{slice-more, slice-all}
 
 -- what a fold over the draft has still to join, one operation on and at the end
@@ -35,12 +34,6 @@ module _ (s : State) (inside : s .opCount ≤ length (s .operations)) (since : s
   pub gathered-all : (join : ℕ → ℕ → ℕ) (f : Operation → ℕ) → s .opCount - s .start ≤ i → gathered join f (drop i (draft s)) ≡ 0
   gathered-all join f l = ap (gathered join f) (draft-all l)
 
-pub length-freedBy : (h : Shape) (es : List Expression) → length (freedBy h es) ≡ length es
-length-freedBy Plain es = refl
-length-freedBy (Holding d) es = refl
-length-freedBy (Branching t) es = refl
-length-freedBy (Nesting n) es = length-set es n (unmarked (expressionOf es n))
-
 module _ (s : State) (rs : List Expression) (i : ℕ) (inside : s .opCount ≤ length (s .operations)) (since : s .start ≤ s .opCount) where
   turn : i < s .opCount - s .start → (es : List Expression) (u : State) → freed (drop i (draft s)) es ≡ rs → length es ≡ 1024 →
       u ≡ withExpressions (freedBy (shape (opAt s (s .start + i))) es) s →
@@ -48,7 +41,7 @@ module _ (s : State) (rs : List Expression) (i : ℕ) (inside : s .opCount ≤ l
   turn l es u h n e =
       let a : u .expressions ≡ freedBy (shape (opAt s (s .start + i))) es = ap (λ (v : State). v .expressions) e in
       let f : freed (drop i (draft s)) es ≡ freed (drop (i + 1) (draft s)) (freedBy (shape (opAt s (s .start + i))) es) = ap (λ v. freed v es) (draft-more s inside since i l) in
-      (e ∙ ap (λ z. withExpressions z s) (sym a), ap (freed (drop (i + 1) (draft s))) a ∙ (sym f ∙ h), ap length a ∙ (length-freedBy (shape (opAt s (s .start + i))) es ∙ n))
+      (e ∙ ap (λ z. withExpressions z s) (sym a), ap (freed (drop (i + 1) (draft s))) a ∙ (sym f ∙ h), ap length a ∙ (length-one (shape (opAt s (s .start + i))) es ∙ n))
 
   pub free-turn : i < s .opCount - s .start → (t u : State) → t ≡ withExpressions (t .expressions) s → freed (drop i (draft s)) (t .expressions) ≡ rs → length (t .expressions) ≡ 1024 →
       u ≡ withExpressions (freedBy (shape (opAt t (t .start + i))) (t .expressions)) t →

@@ -1,8 +1,7 @@
 //! Questions to a book's tables.
 
 ghost use mathlib.Core.Path.{_≡_};
-ghost use mathlib.Core.Bool.{true};
-ghost use Prim.Native.Nat.{_<_, _≤_};
+ghost use Prim.Native.Nat.{_<_};
 ghost use lib.ListN.{length};
 ghost use Rattle.std.specs.Options.{mapped, Cases};
 ghost use Rattle.book_state.specs.Calls.{nextIndex, asRaw};

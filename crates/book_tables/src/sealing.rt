@@ -6,7 +6,7 @@ ghost use lib.ListN.{length};
 ghost use Rattle.book_state.specs.Calls.{sealed, discarded, freedBy, freed, withExpressions};
 ghost use Rattle.book_state.specs.Operations.{shape as shapeOf, anyUnset};
 ghost use Rattle.book_state.specs.State.{opAt, draft, depthBy, depthOf, weightBy, weightOf};
-ghost use Rattle.book_state.specs.Whole.{Counted, Flagged, heaviest};
+ghost use Rattle.book_state.specs.Whole.{Counted, Flagged};
 ghost use Rattle.book_tables.specs.View.{view};
 use crate::operation::is_unset;
 use crate::operation::shape;

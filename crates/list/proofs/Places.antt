@@ -1,9 +1,8 @@
 -- Elements in use, by their places.
 use Prim.Native.Nat.{ℕ, min, _+_, _-_, _<_, _≤_}
-use mathlib.Core.Path.{_≡_, refl, sym, ap, subst, _∙_}
+use mathlib.Core.Path.{_≡_, refl, sym, subst, _∙_}
 use mathlib.Core.Logic.{⊎-elim}
-use mathlib.Core.List.{List, _++_}
-use mathlib.Core.Bool.{cond}
+use mathlib.Core.List.{List}
 use lib.ListN.{length, take, drop, getD, set, length-take}
 use lib.Dec.{ltb}
 use lib.Seq.{paste}

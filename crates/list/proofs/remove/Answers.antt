@@ -1,5 +1,4 @@
-use Prim.Native.Nat.{_+_, _-_, _≤_}
-use mathlib.Core.Path.{_≡_}
+use Prim.Native.Nat.{_+_}
 use lib.ListN.{drop}
 use native.Mathlib.Omega.{arith}
 use Rattle.std.proofs.shelf.Edits.{paste-none}

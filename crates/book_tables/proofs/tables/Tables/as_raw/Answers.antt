@@ -1,7 +1,6 @@
 use Prim.Native.Nat.{_+_, _≤_}
 use lib.ListN.{length}
 use borrow.Author.Needs.{needs}
-use native.Mathlib.Omega.{arith}
 use Rattle.book_state.proofs.Raw.{raw-inside}
 use Rattle.book_tables.specs.View.{view}
 use Rattle.book_tables.proofs.tables.Tables.as_raw.Needs as need
