@@ -1,0 +1,14 @@
+pub mod Units
+pub mod Fixups
+pub mod Chunks
+pub mod Invariant
+pub mod Frames
+pub mod Formed
+pub mod Encoded
+pub mod Events
+pub mod Steps
+pub mod Telling
+pub mod Keeping
+pub mod Foretelling
+pub mod Carrying
+pub mod Evaluations
