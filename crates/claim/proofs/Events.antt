@@ -149,7 +149,7 @@ module _ (s : State) where
 
 pub sound : (s : State) (c : Call) → Sound s (event s c)
 unfolding event
-sound s (begin-unit e) = sound-if s (leb 8 (length (s .units))) TooManyUnits (began (length (s .units)) e) (λ b. tt)
+sound s (begin-unit e) = sound-if s _ TooManyUnits (began (length (s .units)) e) (λ b. tt)
 sound s (append bytes) = sound-room s (length bytes) (appended bytes) (λ b. b)
 sound s (place-entry entry) = sound-placing s entry
 sound s (ask-size x) =
