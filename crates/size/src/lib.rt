@@ -8,7 +8,7 @@ ghost use Rattle.book_state.specs.State.{expressionAt, weightBy};
 ghost use Rattle.book_state.specs.Whole.{Whole};
 ghost use Rattle.book_tables.specs.View.{view};
 ghost use Rattle.book_tree.specs.Store.{InBook, sizeIn, treeIn};
-ghost use Rattle.rules.specs.Sizes.{pointerSize, sizeTree};
+ghost use Rattle.rules.specs.Sizes.{sizeTree};
 ghost use Rattle.unit.specs.Offsets.{scopeOf};
 use book_tables::tables::Tables;
 use common::encoding::Encoding;
@@ -19,17 +19,7 @@ use op::operation::Operation;
 use unit::UnitOffsets;
 use unit::base_offset;
 use unit::entry_offset;
-
-/// The width of an implicit pointer's reference, which version 2 has as wide as an address.
-pub fn pointer_size(encoding: Encoding) -> u8
-    ensures { λ r. ⌜ r ≡ pointerSize encoding ⌝ }
-{
-    if encoding.version == 2 {
-        encoding.address_size
-    } else {
-        encoding.format.word_size()
-    }
-}
+use unit::pointer_size;
 
 /// The size of a sealed expression, nested ones included.
 pub fn expression_size(

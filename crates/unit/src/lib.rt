@@ -2,6 +2,7 @@
 
 ghost use mathlib.Core.Path.{_≡_};
 ghost use Rattle.rules.specs.Scope.{baseOf, baseOrGeneric};
+ghost use Rattle.rules.specs.Sizes.{pointerSize};
 ghost use Rattle.unit.specs.Offsets.{offsetFrom, placeOf, scopeOf};
 use common::encoding::Encoding;
 use common::error::Error;
@@ -49,5 +50,16 @@ pub fn base_offset(unit_offsets: Option<&UnitOffsets>, base: Option<usize>) -> R
     match base {
         Some(entry) => entry_offset(unit_offsets, entry),
         None => Ok(0),
+    }
+}
+
+/// The width of an implicit pointer's reference, which version 2 has as wide as an address.
+pub fn pointer_size(encoding: Encoding) -> u8
+    ensures { λ r. ⌜ r ≡ pointerSize encoding ⌝ }
+{
+    if encoding.version == 2 {
+        encoding.address_size
+    } else {
+        encoding.format.word_size()
     }
 }
