@@ -13,4 +13,4 @@ pub mod Widths
 pub mod Refusals
 pub mod Shapes
 pub mod Starts
-mod Examples
+pub mod Examples
