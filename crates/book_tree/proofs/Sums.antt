@@ -24,7 +24,7 @@ pub grow-size : (e : Encoding) (s : Scope) (inner : ℕ → tree.Tree) (h : tree
 grow-size e s inner (tree.single o bs) t = refl
 grow-size e s inner (tree.nesting n) t = refl
 
-plus-plus : (t n : ℕ) (r : Result ℕ Error) → plus (Ok t) (plus (Ok n) r) ≡ plus (Ok (t + n)) r
+pub plus-plus : (t n : ℕ) (r : Result ℕ Error) → plus (Ok t) (plus (Ok n) r) ≡ plus (Ok (t + n)) r
 plus-plus t n (Ok m) = ap Ok (sym (add-assoc t n m))
 plus-plus t n (Err e) = refl
 

@@ -10,7 +10,7 @@ use Rattle.common.specs.Orders.{bigOf}
 use Rattle.common.specs.declared.endianity.RunTimeEndian.{RunTimeEndian}
 use Rattle.common.specs.declared.endianity.RunTimeEndian.the-variants.{Little, Big}
 use Rattle.dwarf.specs.Fixed.{lowBytes, fixedBytes}
-use Rattle.rules.proofs.Sizes.{length-low, length-fixed}
+use Rattle.dwarf.proofs.Widths.{length-fixed}
 
 low-take : (w k n : ℕ) → w ≤ k → take w (lowBytes k n) ≡ lowBytes w n
 low-take zero k n l = refl
@@ -22,7 +22,7 @@ high-drop w k n l =
     let L : List ℕ = lowBytes k n in
     let a : reverse L ≡ reverse (drop w L) ++ reverse (lowBytes w n) =
     ap reverse (sym (take-append-drop w L)) ∙ (reverse-append (take w L) (drop w L) ∙ ap (λ z. reverse (drop w L) ++ reverse z) (low-take w k n l)) in
-    let d : length (reverse (drop w L)) ≡ k - w = length-reverse (drop w L) ∙ (length-drop w L ∙ ap (λ m. m - w) (length-low k n)) in
+    let d : length (reverse (drop w L)) ≡ k - w = length-reverse (drop w L) ∙ (length-drop w L ∙ ap (λ m. m - w) (length-fixed false k n)) in
     ap (drop (k - w)) a ∙ drop-at (reverse (drop w L)) (reverse (lowBytes w n)) (k - w) d
 
 -- the lowest bytes come first, or last

@@ -1,2 +1,3 @@
 pub mod Starts
 pub mod Filling
+pub mod Reading

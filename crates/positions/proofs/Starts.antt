@@ -50,3 +50,33 @@ module _ (e : Encoding) (s : Scope) (b : State) (all : List ℕ) (i p n : ℕ) (
   next-begins =
       let z : i + 1 + 0 ≡ i + 1 = omega arith in
       sym (ap (λ k. getD all k 0) z) ∙ (sym (getD-drop (i + 1) all 0 0) ∙ (ap (λ (l : List ℕ). getD l 0 0) (sym starts-next) ∙ starts-first e s (p + n) (tree.rows (treeIn b) (storeOf b) ys)))
+
+-- an expression has one start more than operations: its end
+pub starts-length : (e : Encoding) (s : Scope) (b : State) (p : ℕ) (xs : List Operation) → length (rowStarts e s b p xs) ≡ length xs + 1
+starts-length e s b p [] = refl
+starts-length e s b p (x ∷ xs) =
+    let h = starts-length e s b (p + amount (sizeIn e s b x)) xs in
+    let a : length (rowStarts e s b p (x ∷ xs)) ≡ suc (length (rowStarts e s b (p + amount (sizeIn e s b x)) xs)) =
+    ap length (starts-grow e s p (treeIn b) (tree.shape (storeOf b) x) (tree.rows (treeIn b) (storeOf b) xs)) in
+    omega arith
+
+-- the operations from one on begin where the list of all from there on says
+pub starts-from : (e : Encoding) (s : Scope) (b : State) (i p : ℕ) (xs : List Operation) → i ≤ length xs →
+    rowStarts e s b (getD (rowStarts e s b p xs) i 0) (drop i xs) ≡ drop i (rowStarts e s b p xs)
+starts-from e s b zero p xs l = ap (λ q. rowStarts e s b q xs) (starts-first e s p (tree.rows (treeIn b) (storeOf b) xs))
+starts-from e s b (suc i) p [] l = absurd (omega arith)
+starts-from e s b (suc i) p (x ∷ xs) l =
+    let q : ℕ = p + amount (sizeIn e s b x) in
+    let a : rowStarts e s b p (x ∷ xs) ≡ p ∷ rowStarts e s b q xs =
+    starts-grow e s p (treeIn b) (tree.shape (storeOf b) x) (tree.rows (treeIn b) (storeOf b) xs) in
+    ap (λ (l : List ℕ). rowStarts e s b (getD l (suc i) 0) (drop i xs)) a ∙ (starts-from e s b i q xs (omega arith) ∙ sym (ap (λ (l : List ℕ). drop (suc i) l) a))
+
+-- an operation begins where the one before it ends
+pub next-start : (e : Encoding) (s : Scope) (b : State) (i p : ℕ) (xs ys : List Operation) (x : Operation) → i < length xs → drop i xs ≡ x ∷ ys →
+    getD (rowStarts e s b p xs) (i + 1) 0 ≡ getD (rowStarts e s b p xs) i 0 + amount (sizeIn e s b x)
+next-start e s b i p xs ys x l q =
+    let all = rowStarts e s b p xs in
+    let at = getD (rowStarts e s b p xs) i 0 in
+    let a : drop i all ≡ at ∷ rowStarts e s b (at + amount (sizeIn e s b x)) ys =
+    sym (starts-from e s b i p xs (omega arith)) ∙ (ap (rowStarts e s b at) q ∙ starts-grow e s at (treeIn b) (tree.shape (storeOf b) x) (tree.rows (treeIn b) (storeOf b) ys)) in
+    sym (getD-drop i all 1 0) ∙ (ap (λ (l : List ℕ). getD l 1 0) a ∙ starts-first e s (at + amount (sizeIn e s b x)) (tree.rows (treeIn b) (storeOf b) ys))

@@ -41,3 +41,7 @@ FilledBy e s b table x = (m : ℕ) → shape x ≡ Nesting m → Filled e s b ta
 -- ends that were right stay right
 abbrev pub Keeps : Encoding → Scope → State → List ℕ → List ℕ → Type 0
 Keeps e s b old new = (p : ℕ) → EndsAt e s b old p → EndsAt e s b new p
+
+-- the table has the ends of all operations of an expression
+abbrev pub Own : Encoding → Scope → State → List ℕ → ℕ → Type 0
+Own e s b table k = (i : ℕ) → i < expressionAt b k .count → EndsAt e s b table (expressionAt b k .start + i)

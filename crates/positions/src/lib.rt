@@ -20,6 +20,8 @@ use op::operation::Operation;
 use size::operation_size;
 use unit::UnitOffsets;
 
+pub mod branch;
+
 /// The size of a sealed expression. `ends` gets where each of its operations ends, from the expression's start, at the
 /// operation's place in the book; and so for nested expressions.
 pub fn measure_expression(

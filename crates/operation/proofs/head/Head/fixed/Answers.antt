@@ -4,7 +4,7 @@ use mathlib.Core.List.{List, _++_}
 use lib.ListN.{length, take}
 use Rattle.common.specs.Orders.{bigOf}
 use Rattle.operation.proofs.Parts.{cut-little, cut-big}
-use Rattle.rules.proofs.Sizes.{length-fixed}
+use Rattle.dwarf.proofs.Widths.{length-fixed}
 use Rattle.operation.proofs.head.Head.fixed.Needs as need
 
 pub returns-in-Little : need.returns-in-Little
