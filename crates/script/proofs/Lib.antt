@@ -1,6 +1,2 @@
 pub mod Counts
-pub mod Numerals
-pub mod Pairs
-pub mod Prefixes
-pub mod Splitting
 pub mod Histories

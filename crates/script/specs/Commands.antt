@@ -15,7 +15,7 @@ use Rattle.script.specs.declared.command.SinkKind.the-variants.{Bytes, Words}
 use Rattle.script.specs.declared.command.BookLengths.{BookLengths}
 use Rattle.script.specs.declared.command.Command.{Command}
 use Rattle.script.specs.declared.command.Command.the-variants.{New, Sink, Book, Hold, Append, Dump}
-use Rattle.script.specs.Bytes.{hexOf, denoted}
+use Rattle.words.specs.Bytes.{hexOf, denoted}
 use Rattle.script.specs.Operands.{alone, single, double, both, number64, orderOf}
 use Rattle.script.specs.Verbs.{verbOf}
 

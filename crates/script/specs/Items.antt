@@ -6,7 +6,7 @@ use Rattle.std.specs.declared.option.Option.the-variants.{Some, None}
 use Rattle.std.specs.Options.{mapped}
 use Rattle.std.specs.Results.{okPart}
 use Rattle.script.specs.declared.item.Item.{Item}
-use Rattle.script.specs.Text.{wordsOf}
+use Rattle.words.specs.Text.{wordsOf}
 use Rattle.script.specs.Commands.{Meant, meant, lineOf}
 
 -- a line's number, and its command, or none where the line is an error

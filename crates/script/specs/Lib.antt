@@ -1,6 +1,3 @@
-pub mod Text
-pub mod Numbers
-pub mod Bytes
 pub mod Operands
 pub mod Verbs
 pub mod Commands

@@ -9,8 +9,8 @@ use Rattle.std.specs.declared.option.Option.the-variants.{Some, None}
 use Rattle.std.specs.shelf.Text.{sameBytes}
 use Rattle.common.specs.declared.endianity.RunTimeEndian.{RunTimeEndian}
 use Rattle.common.specs.declared.endianity.RunTimeEndian.the-variants.{Little, Big}
-use Rattle.script.specs.declared.text.Split.{Split}
-use Rattle.script.specs.Numbers.{numberOf}
+use Rattle.words.specs.declared.text.Split.{Split}
+use Rattle.words.specs.Numbers.{numberOf}
 
 -- what a command has without further words
 abbrev pub alone : {A : Type 0} → A → List (List ℕ) → Option A

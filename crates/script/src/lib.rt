@@ -2,11 +2,8 @@
 
 pub mod command;
 pub mod fault;
-pub mod hex;
 pub mod item;
-pub mod number;
 mod operand;
 pub mod reader;
 pub mod stage;
-pub mod text;
 pub mod verb;

@@ -5,15 +5,15 @@ ghost use Prim.Native.Nat.{ℕ};
 ghost use Rattle.std.specs.declared.option.Option.the-variants.{Some};
 ghost use Rattle.std.specs.Options.{mapped};
 ghost use Rattle.std.specs.Results.{okPart};
-ghost use Rattle.script.specs.Bytes.{hexOf, denoted};
-ghost use Rattle.script.specs.Text.{wordsIn};
+ghost use Rattle.words.specs.Bytes.{hexOf, denoted};
+ghost use Rattle.words.specs.Text.{wordsIn};
 ghost use Rattle.script.specs.Operands.{alone, single, double, parts, orderOf, number64};
 use crate::fault::Fault;
-use crate::hex::Hex;
-use crate::number::unsigned;
-use crate::text::Split;
-use crate::text::is;
-use crate::text::next_word;
+use words::hex::Hex;
+use words::number::unsigned;
+use words::text::Split;
+use words::text::is;
+use words::text::next_word;
 use common::endianity::RunTimeEndian;
 
 /// That no word is left.

@@ -6,11 +6,11 @@ ghost use Prim.Native.Nat.{ℕ, _+_, _^_, _≤_, _<_};
 ghost use denote.Ref.{now as held};
 ghost use lib.ListN.{length};
 ghost use Rattle.std.specs.Options.{Cases};
-ghost use Rattle.script.specs.Text.{linesOf};
+ghost use Rattle.words.specs.Text.{linesOf};
 ghost use Rattle.script.specs.Items.{itemsAfter, numbered};
 use crate::command::parse;
 use crate::item::Item;
-use crate::text::next_line;
+use words::text::next_line;
 
 /// The lines of a script that are still to be read.
 #[derive(Clone, Copy)]

@@ -3,7 +3,7 @@
 ghost use mathlib.Core.Path.{_≡_};
 ghost use Prim.Native.Nat.{ℕ};
 ghost use Rattle.script.specs.Verbs.{wordFor, partOf, verbOf};
-use crate::text::is;
+use words::text::is;
 
 /// The first word of a command.
 #[derive(Clone, Copy, PartialEq, Eq, Debug)]

@@ -1,6 +1,6 @@
 use mathlib.Core.Path.{_∙_}
 use Rattle.script.specs.Commands.{bookLengths}
-use Rattle.script.specs.Text.{wordsIn}
+use Rattle.words.specs.Text.{wordsIn}
 use Rattle.script.proofs.Counts.{double-at}
 use Rattle.script.proofs.command.book_of.Needs as need
 

@@ -1,6 +1,6 @@
 use mathlib.Core.Path.{_∙_}
 use Rattle.script.specs.Commands.{wordSink}
-use Rattle.script.specs.Text.{wordsIn}
+use Rattle.words.specs.Text.{wordsIn}
 use Rattle.script.proofs.Counts.{single-at}
 use Rattle.script.proofs.command.word_sink_of.Needs as need
 

@@ -3,7 +3,7 @@ use Prim.Native.Nat.{_≤_}
 use denote.Ref.{now}
 use lib.ListN.{length}
 use Rattle.script.specs.Items.{itemsAfter}
-use Rattle.script.specs.Text.{linesOf}
+use Rattle.words.specs.Text.{linesOf}
 use Rattle.script.proofs.reader.Reader.next.Given as given
 
 abbrev pub Inv-loop-split : given.InvT-loop-split

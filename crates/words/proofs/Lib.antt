@@ -1,0 +1,4 @@
+pub mod Numerals
+pub mod Pairs
+pub mod Prefixes
+pub mod Splitting
