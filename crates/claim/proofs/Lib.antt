@@ -12,3 +12,4 @@ pub mod Keeping
 pub mod Foretelling
 pub mod Carrying
 pub mod Evaluations
+pub mod Ranges

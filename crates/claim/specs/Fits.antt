@@ -1,6 +1,7 @@
 -- The range of an operation's operands: every operation that a program holds has them in range.
 use Prim.Native.Nat.{ℕ, _<_, _^_}
 use mathlib.Core.List.{List}
+use Rattle.std.specs.shelf.Lists.{All}
 use Rattle.op.specs.declared.operation.Operation.{Operation}
 use Rattle.op.specs.declared.operation.Operation.the-variants.{
   Raw,
@@ -33,7 +34,7 @@ use Rattle.op.specs.declared.operation.Operation.the-variants.{
   ParameterRef,
 }
 use Rattle.dwarf.specs.Leb.{magnitude}
-use Rattle.rules.specs.Tree.{Tree, end, plain, nest}
+use Rattle.rules.specs.Tree.{Store, Tree, end, plain, nest, treeOf}
 
 -- unsigned numbers of 64 bits, signed ones of 64 bits, registers of 16 bits, indices and sizes of 8 bits
 abbrev pub FitsOperation : Operation → Type 0
@@ -71,3 +72,7 @@ abbrev pub Fits : Tree → Type 0
 Fits end = Unit {0}
 Fits (plain o bytes t) = FitsOperation o × Fits t
 Fits (nest y t) = Fits y × Fits t
+
+-- the expressions of tables whose operations have their operands in range
+abbrev pub TreesFit : Type 0
+TreesFit = (levels : ℕ) (b : Store) (n : ℕ) → All FitsOperation (b .operations) → Fits (treeOf levels b n)
