@@ -2,6 +2,8 @@
 //!
 //! The script is the file named as the argument, or else standard input. An error of the script ends the run with status 1.
 
+#![tactic(auto)]
+
 use anyhow::anyhow;
 use runner::run::{Ending, run};
 use std::io::Read;

@@ -1,5 +1,7 @@
 //! The book: drafts, tickets and sealed expressions, in tables that the caller lends.
 
+#![tactic(auto)]
+
 pub mod book;
 pub mod builders;
 pub mod calls;

@@ -1,5 +1,7 @@
 //! Runs the book through its refusals and limits, and prints the answers.
 
+#![tactic(auto)]
+
 mod answers;
 mod branches;
 mod drafts;

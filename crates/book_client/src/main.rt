@@ -1,5 +1,7 @@
 //! A caller of the book: one expression, with a branch over its second operation.
 
+#![tactic(auto)]
+
 use book::book::Book;
 use common::constants::DW_OP_NOP;
 use common::error::Error;

@@ -1,5 +1,7 @@
 //! The tables of a book, and its calls on them.
 
+#![tactic(auto)]
+
 pub mod adding;
 pub mod operation;
 pub mod questions;

@@ -1,1 +1,3 @@
 //! The expressions of a book as trees: definitions and proofs.
+
+#![tactic(auto)]

@@ -1,5 +1,7 @@
 //! Whether an expression whose sizes are taken can be encoded, and how many references it sets down.
 
+#![tactic(auto)]
+
 ghost use Rattle.std.specs.Prelude.{◌≡◌, ℕ, ◌+◌, ◌<◌, ◌≤◌, List, length, pos, IfOk, Ok};
 ghost use Rattle.book_state.specs.Operations.{shape};
 ghost use Rattle.book_state.specs.State.{data_by, expression_at, op_at, weight_by};

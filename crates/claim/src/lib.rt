@@ -1,5 +1,7 @@
 //! A section as its calls make it, and what holds of it after every list of calls.
 
+#![tactic(auto)]
+
 pub mod operands;
 
 ghost use Rattle.claim.specs.Claim.{CallsCarry, Claim, Steady};

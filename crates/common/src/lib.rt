@@ -1,5 +1,7 @@
 //! The types that every part of the writer shares.
 
+#![tactic(auto)]
+
 pub mod address;
 pub mod constants;
 pub mod encoding;

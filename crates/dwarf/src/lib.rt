@@ -2,6 +2,8 @@
 //!
 //! The definitions stand in `specs/`. Each function here has a theorem as its contract, and does nothing when it runs.
 
+#![tactic(auto)]
+
 ghost use Rattle.dwarf.specs.Examples.{ExamplesRead};
 ghost use Rattle.dwarf.specs.Fixed.{FixedReadsBack};
 ghost use Rattle.dwarf.specs.Reading.{StepsSuffice};

@@ -1,5 +1,7 @@
 //! Writing an expression into a sink.
 
+#![tactic(auto)]
+
 pub mod cursor;
 pub mod data;
 pub mod expression;

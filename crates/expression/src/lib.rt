@@ -1,5 +1,7 @@
 //! Questions about the expressions of a book.
 
+#![tactic(auto)]
+
 ghost use Rattle.std.specs.Prelude.{◌≡◌};
 ghost use Rattle.book.specs.Holds.{holds};
 ghost use Rattle.unit.specs.Offsets.{scope_of};

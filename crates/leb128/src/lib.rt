@@ -1,5 +1,7 @@
 //! DWARF's variable length integers, "Little Endian Base 128" (LEB128), written.
 
+#![tactic(auto)]
+
 ghost use Rattle.std.specs.Prelude.{◌≡◌, ℕ, ◌+◌, ◌-◌, ◌%◌, ◌<◌, ◌≤◌, length, take};
 ghost use Rattle.dwarf.specs.Reader.{ReadsBack, Shortest};
 ghost use Rattle.dwarf.specs.Leb.{uleb, sleb, read_uleb, read_sleb, low_seven, shr, is_small};

@@ -1,5 +1,7 @@
 //! A list in a lent table: the first `len` elements are in use, and the others keep what they held.
 
+#![tactic(auto)]
+
 ghost use Rattle.std.specs.Prelude.{◌≡◌};
 ghost use Rattle.list.specs.Rows.{pushed, item_at, removed};
 

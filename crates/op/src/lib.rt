@@ -1,3 +1,5 @@
 //! Operations of a DWARF expression.
 
+#![tactic(auto)]
+
 pub mod operation;

@@ -1,6 +1,8 @@
 //! A sink of another maker: it owns its bytes, is always little-endian, and says nothing of memory that is lent.
 //! An implementer owes the contract of `Writer` and nothing more.
 
+#![tactic(auto)]
+
 ghost use Rattle.std.specs.Prelude.{◌≡◌, ℕ, false, [], length};
 ghost use Rattle.sinks.specs.Lent.{lent};
 

@@ -1,5 +1,7 @@
 //! What an expression is in bytes: definitions and their theorems.
 
+#![tactic(auto)]
+
 ghost use Rattle.rules.specs.Claims.{BranchesLead, ReferencesWide, RefusalsListed, SizesHold};
 ghost use Rattle.rules.specs.Examples.{Worked};
 

@@ -1,5 +1,7 @@
 //! The link script: its text, its commands and their order.
 
+#![tactic(auto)]
+
 pub mod command;
 pub mod fault;
 pub mod item;

@@ -1,4 +1,6 @@
 //! The sinks over lent tables.
 
+#![tactic(auto)]
+
 pub mod buffer;
 pub mod words;

@@ -1,5 +1,7 @@
 //! How many bytes an expression takes.
 
+#![tactic(auto)]
+
 ghost use Rattle.std.specs.Prelude.{◌≡◌, ◌<◌, ◌≤◌, IfOk};
 ghost use Rattle.book_state.specs.Operations.{shape};
 ghost use Rattle.book_state.specs.State.{expression_at, weight_by};

@@ -1,5 +1,7 @@
 //! Theorems that join the layers.
 
+#![tactic(auto)]
+
 ghost use Rattle.theorems.specs.Examples.{WorkedExamples};
 ghost use Rattle.theorems.specs.ReadBack.{ExpressionsReadBack};
 

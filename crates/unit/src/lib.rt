@@ -1,5 +1,7 @@
 //! Where the entries of a unit stand in the section.
 
+#![tactic(auto)]
+
 ghost use Rattle.std.specs.Prelude.{◌≡◌};
 ghost use Rattle.rules.specs.Scope.{base_of, base_or_generic};
 ghost use Rattle.rules.specs.Sizes.{pointer_size};

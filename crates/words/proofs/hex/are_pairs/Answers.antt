@@ -8,7 +8,7 @@ returns-then-is-none c =
 
 pub loop-i-preserved : goal.loop-i-preserved
 loop-i-preserved c =
-    let p = pairs_more c.loop-i.i c.args.digits.now c.loop-i.invariant.0 (sym (ap is_some c.byte-at.ensures) ∙ c.if-is-none.ensures) in
+    let p = pairs_more c.loop-i.i c.args.digits.now c.loop-i.invariant.0 (sym (ap is_some c.byte_at.ensures) ∙ c.if-is_none.ensures) in
     (p.fits, p.same ∙ c.loop-i.invariant.1)
 
 pub returns : goal.returns

@@ -11,12 +11,12 @@ returns-in-err-number c =
 
 pub loop-c-preserved : goal.loop-c-preserved
 loop-c-preserved c =
-    let more = after_more (2 ^ 64) c.args.base c.loop-c.number _ c.loop-c.c-index c.args.digits.now (omega arith) (sym c.push-digit.ensures ∙ c.in-ok-number.was) in
+    let more = after_more (2 ^ 64) c.args.base c.loop-c.number _ c.loop-c.c-index c.args.digits.now (omega arith) (sym c.push_digit.ensures ∙ c.in_ok-number.was) in
     (more.fits, more.left ∙ c.loop-c.invariant.1)
 
 pub returns : goal.returns
 returns c =
     let cs = c.args.digits.now in
-    let some : 0 < length cs = omega (arith, false-eqb (length cs) 0 c.if-is-empty.ensures) in
+    let some : 0 < length cs = omega (arith, false-eqb (length cs) 0 c.if-is_empty.ensures) in
     let all = after_all (2 ^ 64) c.args.base c.loop-c.number c.loop-c.c-index cs c.loop-c.invariant.0 (omega arith) in
     sym all ∙ c.loop-c.invariant.1 ∙ after_start (2 ^ 64) c.args.base cs some

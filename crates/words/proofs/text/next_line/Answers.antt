@@ -10,7 +10,7 @@ returns-then-is-empty c = record { lines = lines_none c.args.text.now (true-eqb 
 pub returns : goal.returns
 returns c =
     let cs = c.args.text.now in
-    let some : 0 < length cs = omega (arith, false-eqb (length cs) 0 c.if-is-empty.ensures) in
+    let some : 0 < length cs = omega (arith, false-eqb (length cs) 0 c.if-is_empty.ensures) in
     let first = c.cut.ensures.first in
     let rest = c.cut.ensures.rest in
     record {

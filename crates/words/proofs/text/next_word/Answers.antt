@@ -11,7 +11,7 @@ pub returns : goal.returns
 returns c =
     let cs = c.args.text.now in
     let t = take (length cs - c.before-start.result) (drop c.before-start.result cs) in
-    let some : 0 < length t = omega (arith, false-eqb (length t) 0 c.if-is-empty.ensures) in
+    let some : 0 < length t = omega (arith, false-eqb (length t) 0 c.if-is_empty.ensures) in
     let first = c.cut.ensures.first in
     let rest = c.cut.ensures.rest in
     words_more cs t (past_blanks _ _ c.before-start.ensures.value) some ∙ (λ i. sym first i ∷ words_in (sym rest i))
