@@ -1,6 +1,6 @@
 //! The book.
 
-ghost use Rattle.book_state.specs.Whole.{Whole};
+ghost use Rattle.book_state.specs.Whole.{Ordered, Whole};
 ghost use Rattle.book_tables.specs.View.{view};
 
 use book_tables::tables::Tables;
@@ -13,4 +13,5 @@ use book_tables::tables::Tables;
 pub struct Book<'a> {
     pub(crate) tables: Tables<'a>,
     ghost whole: { ∥ Whole (view tables) ∥₁ },
+    ghost ordered: { ∥ Ordered (view tables) ∥₁ },
 }

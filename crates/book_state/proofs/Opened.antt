@@ -5,9 +5,9 @@ use Rattle.std.proofs.lemmas.List.{get_or-replicate, get_or_past}
 use Rattle.std.proofs.lemmas.Bool.{cases_lt}
 use Rattle.op.specs.declared.operation.Operation.{Operation}
 use Rattle.book_state.specs.declared.expression.Expression.{Expression}
-use Rattle.book_state.specs.State.{State, fresh, expression_of, no_expression, draft}
+use Rattle.book_state.specs.State.{State, fresh, expression_of, no_expression}
 use Rattle.book_state.specs.Calls.{opened}
-use Rattle.book_state.specs.Whole.{Whole}
+use Rattle.book_state.specs.Whole.{Kept}
 
 none_there : (k : ℕ) → expression_of (replicate 1024 no_expression) k ≡ no_expression
 none_there k = ⊎_elim
@@ -15,69 +15,73 @@ none_there k = ⊎_elim
     (λ l. get_or_past (replicate 1024 no_expression) k no_expression (simp length-replicate l))
     (cases_lt k 1024)
 
-pub keep-fresh : (ops : List Operation) (bs : List ℕ) → Whole (fresh ops bs)
+pub keep-fresh : (ops : List Operation) (bs : List ℕ) → Kept (fresh ops bs)
 keep-fresh ops bs = record {
-  counted = record {
-    ops_within = omega arith;
-    bytes_within = omega arith;
-    since = omega arith;
-    bytes_since = omega arith;
-    sealed_within = omega arith;
-    table = length-replicate 1024 no_expression;
-    room = λ e. omega arith;
-    idle = λ e. (refl, refl);
-    light = λ k. subst (λ (e : Expression). e.weight ≤ 1155071) (sym (none_there k)) (omega arith);
-    shallow = λ k. subst (λ (e : Expression). e.depth ≤ 16) (sym (none_there k)) (omega arith);
+  whole = record {
+    counted = record {
+      ops_within = omega arith;
+      bytes_within = omega arith;
+      since = omega arith;
+      bytes_since = omega arith;
+      sealed_within = omega arith;
+      table = length-replicate 1024 no_expression;
+      room = λ e. omega arith;
+      idle = λ e. (refl, refl);
+      light = λ k. subst (λ (e : Expression). e.weight ≤ 1155071) (sym (none_there k)) (omega arith);
+      shallow = λ k. subst (λ (e : Expression). e.depth ≤ 16) (sym (none_there k)) (omega arith);
+    };
+    ends = λ k l. absurd (omega arith);
+    closed = λ k i l h. absurd (omega arith);
+    drafted = λ p l h. absurd (omega arith);
+    named = λ p l. absurd (omega arith);
+    flagged = λ p m l e. absurd (omega arith);
+    used = λ m h. let e = ap (λ (x : Expression). x.nested) (none_there m) in let z : ◌≡◌ {A = ℕ} 0 1 = cc in absurd (omega arith);
+    once = λ p q m l h e f. omega arith;
+    deep = λ k l. absurd (omega arith);
+    weighed = λ k l. absurd (omega arith);
+    low = omega arith;
+    held = refl;
+    total = refl;
   };
-  ends = λ k l. absurd (omega arith);
   ordered = λ j k l h. absurd (omega arith);
-  closed = λ k i l h. absurd (omega arith);
-  drafted = λ p l h. absurd (omega arith);
-  named = λ p l. absurd (omega arith);
-  flagged = λ p m l e. absurd (omega arith);
-  used = λ m h. let e = ap (λ (x : Expression). x.nested) (none_there m) in let z : ◌≡◌ {A = ℕ} 0 1 = cc in absurd (omega arith);
-  once = λ p q m l h e f. omega arith;
-  deep = λ k l. absurd (omega arith);
-  weighed = λ k l. absurd (omega arith);
-  low = omega arith;
-  held = refl;
-  total = refl;
 }
 
-module _ (s : State) (o : s.drafting ≡ false) (room : s.sealed_count < 1024) (w : Whole s) where
+module _ (s : State) (o : s.drafting ≡ false) (room : s.sealed_count < 1024) (w : Kept s) where
   at : ℕ → ℕ → State
   at a b = record { operations = s.operations; bytes = s.bytes; expressions = s.expressions; op_count = s.op_count; byte_count = s.byte_count; sealed_count = s.sealed_count; start = a; byte_start = b; drafting = true }
 
-  same : Whole (at s.start s.byte_start)
+  same : Kept (at s.start s.byte_start)
   unfolding at
-  same = let c = w.counted in record {
-    counted = record {
-      ops_within = c.ops_within;
-      bytes_within = c.bytes_within;
-      since = c.since;
-      bytes_since = c.bytes_since;
-      sealed_within = c.sealed_within;
-      table = c.table;
-      room = λ e. room;
-      idle = λ e. let z : ◌≡◌ {A = ℕ} 0 1 = cc in absurd (omega arith);
-      light = c.light;
-      shallow = c.shallow;
+  same = let c = w.whole.counted in record {
+    whole = record {
+      counted = record {
+        ops_within = c.ops_within;
+        bytes_within = c.bytes_within;
+        since = c.since;
+        bytes_since = c.bytes_since;
+        sealed_within = c.sealed_within;
+        table = c.table;
+        room = λ e. room;
+        idle = λ e. let z : ◌≡◌ {A = ℕ} 0 1 = cc in absurd (omega arith);
+        light = c.light;
+        shallow = c.shallow;
+      };
+      ends = w.whole.ends;
+      closed = w.whole.closed;
+      drafted = w.whole.drafted;
+      named = w.whole.named;
+      flagged = w.whole.flagged;
+      used = w.whole.used;
+      once = w.whole.once;
+      deep = w.whole.deep;
+      weighed = w.whole.weighed;
+      low = w.whole.low;
+      held = w.whole.held;
+      total = w.whole.total;
     };
-    ends = w.ends;
     ordered = w.ordered;
-    closed = w.closed;
-    drafted = w.drafted;
-    named = w.named;
-    flagged = w.flagged;
-    used = w.used;
-    once = w.once;
-    deep = w.deep;
-    weighed = w.weighed;
-    low = w.low;
-    held = w.held;
-    total = w.total;
   }
 
-  pub keep_opened : Whole (opened s)
+  pub keep_opened : Kept (opened s)
   unfolding at
-  keep_opened = let e = w.counted.idle o in subst Whole (ap (λ n. at n s.byte_start) e.0 ∙ ap (at s.op_count) e.1) same
+  keep_opened = let e = w.whole.counted.idle o in subst Kept (ap (λ n. at n s.byte_start) e.0 ∙ ap (at s.op_count) e.1) same

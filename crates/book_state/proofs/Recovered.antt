@@ -5,7 +5,7 @@ use mathlib.Core.Bool.{Bool-set}
 use native.Mathlib.Nat.{ℕ_set}
 use native.Mathlib.Bridge.{le_prop}
 use Rattle.book_state.specs.State.{State}
-use Rattle.book_state.specs.Whole.{Counted, Whole}
+use Rattle.book_state.specs.Whole.{Counted, Ordered, Whole}
 
 none_prop : (x y : ⊥) → x ≡ y
 none_prop x y = absurd x
@@ -28,7 +28,6 @@ whole_prop : (s : State) (x y : Whole s) → x ≡ y
 whole_prop s x y = λ i. record {
   counted = counted_prop s x.counted y.counted i;
   ends = λ k l. le_prop (x.ends k l) (y.ends k l) i;
-  ordered = λ j k l h. le_prop (x.ordered j k l h) (y.ordered j k l h) i;
   closed = λ k j l h. Bool-set _ _ (x.closed k j l h) (y.closed k j l h) i;
   drafted = λ p l h. Bool-set _ _ (x.drafted p l h) (y.drafted p l h) i;
   named = λ p l. Bool-set _ _ (x.named p l) (y.named p l) i;
@@ -44,3 +43,6 @@ whole_prop s x y = λ i. record {
 
 pub recovered : (s : State) → ∥ Whole s ∥₁ → Whole s
 recovered s t = ∥∥₁_elim t (whole_prop s) (λ w. w)
+
+pub recovered_order : (s : State) → ∥ Ordered s ∥₁ → Ordered s
+recovered_order s t = ∥∥₁_elim t (λ x y. λ i j k l h. le_prop (x j k l h) (y j k l h) i) (λ w. w)

@@ -96,7 +96,6 @@ roots (e ∷ es) = own e + roots es
 pub record Whole (s : State) : Type 0 where
   pub counted : Counted s
   pub ends : Ends s
-  pub ordered : Ordered s
   pub closed : Closed s
   pub drafted : Drafted s
   pub named : Named s
@@ -111,3 +110,8 @@ pub record Whole (s : State) : Type 0 where
   pub held : s.byte_start + data_of (draft s) ≡ s.byte_count
   -- expressions that none holds and the draft weigh as much as all operations and data
   pub total : roots (take s.sealed_count s.expressions) + weight_of s.expressions (draft s) ≡ 266 * s.op_count + s.byte_count
+
+-- and the order of its expressions
+pub record Kept (s : State) : Type 0 where
+  pub whole : Whole s
+  pub ordered : Ordered s

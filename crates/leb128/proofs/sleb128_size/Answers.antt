@@ -19,5 +19,5 @@ group-preserved c =
     let d : is_small z ≡ false = ap is_small (sym c.group.val-is) ∙ sym c.if-done.ensures in
     let inv = rw c.group.val-is at c.group.invariant in
     let m = more c.group.size z d inv.0 inv.1 in
-    let r : to_z w64 (of_z w64 c.next-groups-val.result) ≡ shr 128 z = to_z-of_z w64 c.next-groups-val.result (record { sfits = c.next-groups-val.type-inv }) ∙ c.next-groups-val.ensures ∙ ap (shr 128) c.group.val-is in
+    let r : to_z w64 (of_z w64 c.next_groups-val.result) ≡ shr 128 z = to_z-of_z w64 c.next_groups-val.result (record { sfits = c.next_groups-val.type_inv }) ∙ c.next_groups-val.ensures ∙ ap (shr 128) c.group.val-is in
     rw r (m.less, m.fits, omega (arith, ap length m.is, inv.2))

@@ -8,7 +8,7 @@ loop-i-init c = tt
 
 pub loop-i-preserved : goal.loop-i-preserved
 loop-i-preserved c =
-    All-more FitsOperation c.args.operations.now c.loop-i.i _ c.loop-i-test.true c.loop-i.invariant c.operands-fit.ensures
+    All-more FitsOperation c.args.operations.now c.loop-i.i _ c.loop-i-test.true c.loop-i.invariant c.operands_fit.ensures
 
 pub returns : goal.returns
 returns c = rw (take_all c.loop-i.i c.args.operations.now c.loop-i-test.false) at c.loop-i.invariant

@@ -8,5 +8,5 @@ either_order : (big : Bool) → no_length big Dwarf64 ≡ 255 ∷ 255 ∷ 255 �
 either_order true = refl
 either_order false = refl
 
-pub returns-in-err-write-2 : goal.returns-in-err-write-2
-returns-in-err-write-2 g c = let e = either_order (g.W.Writer.means c.args.w.now).big in search rules
+pub returns-in_err-write-in-Dwarf64 : goal.returns-in_err-write-in-Dwarf64
+returns-in_err-write-in-Dwarf64 g c = let e = either_order (g.W.Writer.means c.args.w.now).big in search rules

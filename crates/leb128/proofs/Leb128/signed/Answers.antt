@@ -17,7 +17,7 @@ returns-then-done c =
     let d : is_small z ≡ true = ap is_small (sym c.group.val-is) ∙ sym c.if-done.ensures in
     let inv = rw (c.group.val-is, to_z-of_z w64 c.args.val c.ranges.val) at c.group.invariant in
     let e = last_at s z d in
-    let low : c.low-bits-of-i64-byte.result ≡ low_seven z = c.low-bits-of-i64-byte.ensures ∙ ap low_seven c.group.val-is in
+    let low : c.low_bits_of_i64-byte.result ≡ low_seven z = c.low_bits_of_i64-byte.ensures ∙ ap low_seven c.group.val-is in
     let b : c.if-not-done.byte ≡ low_seven z =
     elim c.if-not-done.branch [
       | then-not-done w ↦ absurd (both_ways _ w.if-not-done.true c.if-done.true)
@@ -28,7 +28,7 @@ returns-then-done c =
     let whole : take (s + 1) (set c.group.bytes s c.if-not-done.byte) ≡ sleb c.args.val = cc in
     record {
       value = whole;
-      reads-back = subst (λ bytes. ReadsBack read_sleb bytes c.args.val) (sym whole) (sleb_reads_back c.args.val (magnitude-fits c.args.val c.ranges.val));
+      reads_back = subst (λ bytes. ReadsBack read_sleb bytes c.args.val) (sym whole) (sleb_reads_back c.args.val (magnitude-fits c.args.val c.ranges.val));
       shortest = subst (λ bytes. Shortest read_sleb bytes c.args.val) (sym whole) (sleb_shortest c.args.val);
     }
 
@@ -39,7 +39,7 @@ group-preserved c =
     let d : is_small z ≡ false = ap is_small (sym c.group.val-is) ∙ sym c.if-done.ensures in
     let inv = rw c.group.val-is at c.group.invariant in
     let m = more s z d inv.0 inv.1 in
-    let low : c.low-bits-of-i64-byte.result ≡ low_seven z = c.low-bits-of-i64-byte.ensures ∙ ap low_seven c.group.val-is in
+    let low : c.low_bits_of_i64-byte.result ≡ low_seven z = c.low_bits_of_i64-byte.ensures ∙ ap low_seven c.group.val-is in
     let b : c.if-not-done.byte ≡ low_seven z + 128 =
     elim c.if-not-done.branch [
       | then-not-done w ↦ omega (arith, w.byte-is, w.continued-byte.ensures, low)
@@ -47,7 +47,7 @@ group-preserved c =
     ] in
     let r : c.if-not-done.val ≡ shr 128 z =
     elim c.if-not-done.branch [
-      | then-not-done w ↦ sym c.if-not-done.val-is ∙ w.val-is ∙ to_z-of_z w64 w.next-groups-val.result (record { sfits = w.next-groups-val.type-inv }) ∙ w.next-groups-val.ensures ∙ ap (shr 128) c.group.val-is
+      | then-not-done w ↦ sym c.if-not-done.val-is ∙ w.val-is ∙ to_z-of_z w64 w.next_groups-val.result (record { sfits = w.next_groups-val.type_inv }) ∙ w.next_groups-val.ensures ∙ ap (shr 128) c.group.val-is
       | else-not-done w ↦ absurd (both_ways _ c.if-done.false w.if-not-done.false)
     ] in
     let t = take_more_set c.group.bytes s c.if-not-done.byte (omega arith) in

@@ -15,7 +15,7 @@ returns-then-val-eq0 c =
     let b : c.if-val-ne0.byte ≡ n % 128 =
     elim c.if-val-ne0.branch [
       | then-val-ne0 w ↦ absurd (w.if-val-ne0.true c.if-val-eq0.true)
-      | else-val-ne0 w ↦ w.byte-is ∙ c.low-bits-of-u64-byte.ensures
+      | else-val-ne0 w ↦ w.byte-is ∙ c.low_bits_of_u64-byte.ensures
     ] in
     let e = last_at s n c.if-val-eq0.true in
     let t = take_more_set c.group.bytes s c.if-val-ne0.byte (omega arith) in
@@ -23,7 +23,7 @@ returns-then-val-eq0 c =
     let whole : take (s + 1) (set c.group.bytes s c.if-val-ne0.byte) ≡ uleb c.args.val = cc in
     record {
       value = whole;
-      reads-back = subst (λ bytes. ReadsBack read_uleb bytes c.args.val) (sym whole) (uleb_reads_back c.args.val c.ranges.val.fits);
+      reads_back = subst (λ bytes. ReadsBack read_uleb bytes c.args.val) (sym whole) (uleb_reads_back c.args.val c.ranges.val.fits);
       shortest = subst (λ bytes. Shortest read_uleb bytes c.args.val) (sym whole) (uleb_shortest c.args.val);
     }
 

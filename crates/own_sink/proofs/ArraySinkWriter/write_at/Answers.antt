@@ -3,12 +3,12 @@ use Rattle.sinks.proofs.Replaced.{mid_is, mid_length}
 use Rattle.sinks.proofs.Lending.{patches}
 use Rattle.own_sink.proofs.ArraySinkWriter.write_at.Goals as goal
 
-pub invariant-of-self : goal.invariant-of-self
-invariant-of-self c =
+pub invariant_of-self : goal.invariant_of-self
+invariant_of-self c =
     let s = c.args.self.now in
     let bs = c.args.bytes.now in
     let at = c.args.offset in
-    (mid_length s.bytes bs c.copy-from-slice.new.self at (at + length bs - at) c.copy-from-slice.ensures.after (omega arith) (omega arith) ∙ s.whole, tt)
+    (mid_length s.bytes bs c.copy_from_slice.new.self at (at + length bs - at) c.copy_from_slice.ensures.after (omega arith) (omega arith) ∙ s.whole, tt)
 
 pub returns : goal.returns
 returns c =
@@ -17,7 +17,7 @@ returns c =
     let at = c.args.offset in
     let bs = c.args.bytes.now in
     let k : at + length bs - at ≡ length bs = omega arith in
-    let e = mid_is t bs c.copy-from-slice.new.self at (at + length bs - at) c.copy-from-slice.ensures.after k in
+    let e = mid_is t bs c.copy_from_slice.new.self at (at + length bs - at) c.copy_from_slice.ensures.after k in
     let h : at + length bs ≤ length (take (min s.len 16) t) = omega arith in
     let a = patches t _ bs 16 s.len at 0 false e h in
     record { answer = a.answer; after = a.after; memory = record { lent = refl; rest = λ j l. refl } }

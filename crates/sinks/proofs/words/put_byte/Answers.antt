@@ -3,4 +3,4 @@ use Rattle.sinks.proofs.Spread.{byte_put}
 use Rattle.sinks.proofs.words.put_byte.Goals as goal
 
 pub returns : goal.returns
-returns c = byte_put c.args.table.now c.to-be-bytes-bytes.result c.args.at c.args.b c.from-be-bytes.result (omega arith) (omega arith) c.to-be-bytes-bytes.ensures c.from-be-bytes.ensures
+returns c = byte_put c.args.table.now c.to_be_bytes-bytes.result c.args.at c.args.b c.from_be_bytes.result (omega arith) (omega arith) c.to_be_bytes-bytes.ensures c.from_be_bytes.ensures

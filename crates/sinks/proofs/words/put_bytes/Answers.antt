@@ -14,7 +14,7 @@ loop-i-preserved c =
     let t = spread c.args.table.now in
     let bs = c.args.bytes.now in
     let l = length-spread c.args.table.now in
-    c.put-byte.ensures ∙ ap (λ x. set x (c.args.at + c.loop-i.i) (get_or bs c.loop-i.i 0)) c.loop-i.invariant
+    c.put_byte.ensures ∙ ap (λ x. set x (c.args.at + c.loop-i.i) (get_or bs c.loop-i.i 0)) c.loop-i.invariant
     ∙ put_more t bs c.args.at c.loop-i.i (omega arith) (omega arith)
 
 pub returns : goal.returns

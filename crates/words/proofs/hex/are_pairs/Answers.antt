@@ -2,9 +2,9 @@ use Rattle.std.proofs.Common.{is_some, sym, ap, ◌∙◌, arith}
 use Rattle.words.proofs.Pairs.{pairs_none, pairs_more, pairs_all}
 use Rattle.words.proofs.hex.are_pairs.Goals as goal
 
-pub returns-then-is-none : goal.returns-then-is-none
-returns-then-is-none c =
-    pairs_none c.loop-i.i c.args.digits.now c.loop-i-test.true (sym (ap is_some c.byte-at.ensures) ∙ c.if-is-none.ensures) ∙ c.loop-i.invariant.1
+pub returns-then-is_none : goal.returns-then-is_none
+returns-then-is_none c =
+    pairs_none c.loop-i.i c.args.digits.now c.loop-i-test.true (sym (ap is_some c.byte_at.ensures) ∙ c.if-is_none.ensures) ∙ c.loop-i.invariant.1
 
 pub loop-i-preserved : goal.loop-i-preserved
 loop-i-preserved c =

@@ -4,8 +4,8 @@ use Rattle.words.specs.Text.{is_in, reach, lines_of}
 use Rattle.words.proofs.Splitting.{pieces_more, lines_none}
 use Rattle.words.proofs.text.next_line.Goals as goal
 
-pub returns-then-is-empty : goal.returns-then-is-empty
-returns-then-is-empty c = record { lines = lines_none c.args.text.now (true-eqb _ 0 c.if-is-empty.ensures); shorter = tt }
+pub returns-then-is_empty : goal.returns-then-is_empty
+returns-then-is_empty c = record { lines = lines_none c.args.text.now (true-eqb _ 0 c.if-is_empty.ensures); shorter = tt }
 
 pub returns : goal.returns
 returns c =

@@ -3,9 +3,9 @@ use Rattle.words.specs.Text.{words_in}
 use Rattle.words.proofs.Splitting.{past_blanks, words_none, words_more}
 use Rattle.words.proofs.text.next_word.Goals as goal
 
-pub returns-then-is-empty : goal.returns-then-is-empty
-returns-then-is-empty c =
-    words_none c.args.text.now _ (past_blanks _ _ c.before-start.ensures.value) (true-eqb _ 0 c.if-is-empty.ensures)
+pub returns-then-is_empty : goal.returns-then-is_empty
+returns-then-is_empty c =
+    words_none c.args.text.now _ (past_blanks _ _ c.before-start.ensures.value) (true-eqb _ 0 c.if-is_empty.ensures)
 
 pub returns : goal.returns
 returns c =

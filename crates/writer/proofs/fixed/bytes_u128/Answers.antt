@@ -3,8 +3,8 @@ use native.Mathlib.Nat.{div-div-eq-div-mul}
 use Rattle.dwarf.specs.Fixed.{fixed_bytes}
 use Rattle.writer.proofs.fixed.bytes_u128.Goals as goal
 
-pub returns-then-is-big-endian : goal.returns-then-is-big-endian
-returns-then-is-big-endian g c = let b : g.E.Endianity.big c.args.endian ≡ true = sym c.is-big-endian.ensures ∙ c.if-is-big-endian.true in simp (b, div-div-eq-div-mul) c.to-be-bytes.ensures
+pub returns-then-is_big_endian : goal.returns-then-is_big_endian
+returns-then-is_big_endian g c = let b : g.E.Endianity.big c.args.endian ≡ true = sym c.is_big_endian.ensures ∙ c.if-is_big_endian.true in simp (b, div-div-eq-div-mul) c.to_be_bytes.ensures
 
-pub returns-else-is-big-endian : goal.returns-else-is-big-endian
-returns-else-is-big-endian g c = let b : g.E.Endianity.big c.args.endian ≡ false = sym c.is-big-endian.ensures ∙ c.if-is-big-endian.false in simp (b, div-div-eq-div-mul) c.to-le-bytes.ensures
+pub returns-else-is_big_endian : goal.returns-else-is_big_endian
+returns-else-is_big_endian g c = let b : g.E.Endianity.big c.args.endian ≡ false = sym c.is_big_endian.ensures ∙ c.if-is_big_endian.false in simp (b, div-div-eq-div-mul) c.to_le_bytes.ensures

@@ -4,8 +4,8 @@ use Rattle.book_tables.specs.View.{view}
 use Rattle.book.proofs.Kept.{kept}
 use Rattle.book.proofs.book.Book.aim.Goals as goal
 
-pub set-target-requires : goal.set-target-requires
-set-target-requires c = (recovered (view c.args.self.now.tables) c.args.self.now.whole).counted
+pub set_target-requires : goal.set_target-requires
+set_target-requires c = (recovered (view c.args.self.now.tables) c.args.self.now.whole).counted
 
-pub invariant-of-self : goal.invariant-of-self
-invariant-of-self c = kept (view c.args.self.now.tables) (view c.set-target.new.self) _ _ c.args.self.now.whole (keep_target c.args.branch c.args.target (view c.args.self.now.tables)) c.set-target.ensures
+pub invariant_of-self : goal.invariant_of-self
+invariant_of-self c = kept (view c.args.self.now.tables) (view c.set_target.new.self) _ _ c.args.self.now.whole c.args.self.now.ordered (keep_target c.args.branch c.args.target (view c.args.self.now.tables)) c.set_target.ensures

@@ -3,5 +3,5 @@ use Rattle.book_tables.specs.View.{view}
 use Rattle.book.proofs.Kept.{kept}
 use Rattle.book.proofs.book.Book.begin.Goals as goal
 
-pub invariant-of-self : goal.invariant-of-self
-invariant-of-self c = kept (view c.args.self.now.tables) (view c.begin.new.self) _ _ c.args.self.now.whole (keep-begun (view c.args.self.now.tables)) c.begin.ensures
+pub invariant_of-self : goal.invariant_of-self
+invariant_of-self c = kept (view c.args.self.now.tables) (view c.begin.new.self) _ _ c.args.self.now.whole c.args.self.now.ordered (keep-begun (view c.args.self.now.tables)) c.begin.ensures

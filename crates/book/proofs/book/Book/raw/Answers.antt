@@ -7,5 +7,5 @@ use Rattle.book.proofs.book.Book.raw.Goals as goal
 pub raw-requires : goal.raw-requires
 raw-requires c = (recovered (view c.args.self.now.tables) c.args.self.now.whole).counted
 
-pub invariant-of-self : goal.invariant-of-self
-invariant-of-self c = kept (view c.args.self.now.tables) (view c.raw.new.self) _ _ c.args.self.now.whole (keep_raw c.args.bytes.now (view c.args.self.now.tables)) c.raw.ensures
+pub invariant_of-self : goal.invariant_of-self
+invariant_of-self c = kept (view c.args.self.now.tables) (view c.raw.new.self) _ _ c.args.self.now.whole c.args.self.now.ordered (keep_raw c.args.bytes.now (view c.args.self.now.tables)) c.raw.ensures

@@ -7,5 +7,5 @@ use Rattle.book.proofs.book.Book.withdraw.Goals as goal
 pub discard-requires : goal.discard-requires
 discard-requires c = (recovered (view c.args.self.now.tables) c.args.self.now.whole).counted
 
-pub invariant-of-self : goal.invariant-of-self
-invariant-of-self c = kept (view c.args.self.now.tables) (view c.discard.new.self) _ _ c.args.self.now.whole (keep-discarded (view c.args.self.now.tables)) c.discard.ensures
+pub invariant_of-self : goal.invariant_of-self
+invariant_of-self c = kept (view c.args.self.now.tables) (view c.discard.new.self) _ _ c.args.self.now.whole c.args.self.now.ordered (keep-discarded (view c.args.self.now.tables)) c.discard.ensures
