@@ -5,7 +5,7 @@
 ghost use Rattle.std.specs.Prelude.{◌≡◌, ℕ, ◌<◌, ◌≤◌, length, IfOk, OnOk};
 ghost use Rattle.book_state.specs.Operations.{shape};
 ghost use Rattle.book_state.specs.State.{expression_at, weight_by};
-ghost use Rattle.book_state.specs.Whole.{Whole};
+ghost use Rattle.book_state.specs.Whole.{Ordered, Whole};
 ghost use Rattle.book_tables.specs.View.{view};
 ghost use Rattle.book_tree.specs.Store.{InBook, size_in, tree_in};
 ghost use Rattle.positions.specs.Ends.{Keeps, Filled, FilledBy};
@@ -33,6 +33,7 @@ pub fn measure_expression(
     ends: &mut [usize],
 ) -> Result<usize, Error>
     requires whole { Whole (view tables.now) }
+    requires ordered { Ordered (view tables.now) }
     requires there { number < tables.now.sealed_count }
     requires wide { 4096 ≤ length ends.old }
     ensures value { result ≡ size_tree encoding (scope_of unit_offsets.entry) (tree_in (view tables.now) number) }
@@ -61,6 +62,7 @@ fn measure_operation(
     ends: &mut [usize],
 ) -> Result<usize, Error>
     requires whole { Whole (view tables.now) }
+    requires ordered { Ordered (view tables.now) }
     requires inside { InBook (view tables.now) (shape op) }
     requires wide { 4096 ≤ length ends.old }
     ensures value { result ≡ size_in encoding (scope_of unit_offsets.entry) (view tables.now) op }

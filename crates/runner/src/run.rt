@@ -110,7 +110,7 @@ fn write_bytes<W: Writer>(
     bytes: Hex<'_>,
     done: Answer,
 ) -> Result<Answer, OutOfMemory>
-    ensures { IfOk result (λ a. Written done (denoted bytes.entry) (means sink.old) a (means sink.new)) }
+    ensures { IfOk result (λ a. Written done (denoted bytes.entry) (W.Writer.means sink.old) a (W.Writer.means sink.new)) }
 {
     let bytes = bytes.decode(heap)?;
     match sink.write(bytes.as_slice()) {

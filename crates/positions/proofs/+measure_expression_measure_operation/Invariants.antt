@@ -11,21 +11,21 @@ use Rattle.positions.specs.Ends.{EndsAt, FilledBy, Keeps}
 use Rattle.positions.proofs.Starts.{row_starts}
 use Rattle.positions.proofs.+measure_expression_measure_operation.Given as goal
 
-abbrev pub decreases-measure-expression : goal.decreases-measure-expression
-decreases-measure-expression l = 2 * (expression_at (view l.tables.now) l.number).depth + 1
+abbrev pub decreases-measure_expression : goal.decreases-measure_expression
+decreases-measure_expression l = 2 * (expression_at (view l.tables.now) l.number).depth + 1
 
-abbrev pub decreases-measure-operation : goal.decreases-measure-operation
-decreases-measure-operation l = 2 * depth_by l.tables.now.expressions (shape l.op)
+abbrev pub decreases-measure_operation : goal.decreases-measure_operation
+decreases-measure_operation l = 2 * depth_by l.tables.now.expressions (shape l.op)
 
 -- what is counted and what is left make up the size and weigh no more than the expression; the next operation begins where the
 -- count says; the table has the ends of those before it
-abbrev pub invariant-measure-expression-loop-i : goal.invariant-measure-expression-loop-i
-invariant-measure-expression-loop-i l =
-    (plus (Ok l.size) (rows_size l.encoding (scope_of l.unit-offsets) (view l.tables) (drop l.i (operations_of (view l.tables) l.number)))
-    ≡ rows_size l.encoding (scope_of l.unit-offsets) (view l.tables) (operations_of (view l.tables) l.number))
+abbrev pub invariant-measure_expression-loop-i : goal.invariant-measure_expression-loop-i
+invariant-measure_expression-loop-i l =
+    (plus (Ok l.size) (rows_size l.encoding (scope_of l.unit_offsets) (view l.tables) (drop l.i (operations_of (view l.tables) l.number)))
+    ≡ rows_size l.encoding (scope_of l.unit_offsets) (view l.tables) (operations_of (view l.tables) l.number))
     × (l.size + weight_of l.tables.expressions (drop l.i (operations_of (view l.tables) l.number)) ≤ (expression_at (view l.tables) l.number).weight)
-    × (row_starts l.encoding (scope_of l.unit-offsets) (view l.tables) l.size (drop l.i (operations_of (view l.tables) l.number))
-    ≡ drop l.i (starts l.encoding (scope_of l.unit-offsets) 0 (tree_in (view l.tables) l.number)))
-    × Keeps l.encoding (scope_of l.unit-offsets) (view l.tables) l.initial.ends l.ends
-    × ((j : ℕ) → j < l.i → EndsAt l.encoding (scope_of l.unit-offsets) (view l.tables) l.ends ((expression_at (view l.tables) l.number).start + j))
-    × ((j : ℕ) → j < l.i → FilledBy l.encoding (scope_of l.unit-offsets) (view l.tables) l.ends (op_at (view l.tables) ((expression_at (view l.tables) l.number).start + j)))
+    × (row_starts l.encoding (scope_of l.unit_offsets) (view l.tables) l.size (drop l.i (operations_of (view l.tables) l.number))
+    ≡ drop l.i (starts l.encoding (scope_of l.unit_offsets) 0 (tree_in (view l.tables) l.number)))
+    × Keeps l.encoding (scope_of l.unit_offsets) (view l.tables) l.initial.ends l.ends
+    × ((j : ℕ) → j < l.i → EndsAt l.encoding (scope_of l.unit_offsets) (view l.tables) l.ends ((expression_at (view l.tables) l.number).start + j))
+    × ((j : ℕ) → j < l.i → FilledBy l.encoding (scope_of l.unit_offsets) (view l.tables) l.ends (op_at (view l.tables) ((expression_at (view l.tables) l.number).start + j)))

@@ -8,15 +8,15 @@ use Rattle.unit.specs.Offsets.{scope_of}
 use Rattle.size.proofs.+expression_size_operation_size.Given as goal
 
 -- the depth of the expression falls
-abbrev pub decreases-expression-size : goal.decreases-expression-size
-decreases-expression-size l = 2 * (expression_at (view l.tables.now) l.number).depth + 1
+abbrev pub decreases-expression_size : goal.decreases-expression_size
+decreases-expression_size l = 2 * (expression_at (view l.tables.now) l.number).depth + 1
 
-abbrev pub decreases-operation-size : goal.decreases-operation-size
-decreases-operation-size l = 2 * depth_by l.tables.now.expressions (shape l.op)
+abbrev pub decreases-operation_size : goal.decreases-operation_size
+decreases-operation_size l = 2 * depth_by l.tables.now.expressions (shape l.op)
 
 -- what is counted and what is left make up the size, and weigh no more than the expression
-abbrev pub invariant-expression-size-loop-i : goal.invariant-expression-size-loop-i
-invariant-expression-size-loop-i l =
-    (plus (Ok l.size) (rows_size l.encoding (scope_of l.unit-offsets) (view l.tables) (drop l.i (operations_of (view l.tables) l.number)))
-    ≡ rows_size l.encoding (scope_of l.unit-offsets) (view l.tables) (operations_of (view l.tables) l.number))
+abbrev pub invariant-expression_size-loop-i : goal.invariant-expression_size-loop-i
+invariant-expression_size-loop-i l =
+    (plus (Ok l.size) (rows_size l.encoding (scope_of l.unit_offsets) (view l.tables) (drop l.i (operations_of (view l.tables) l.number)))
+    ≡ rows_size l.encoding (scope_of l.unit_offsets) (view l.tables) (operations_of (view l.tables) l.number))
     × (l.size + weight_of l.tables.expressions (drop l.i (operations_of (view l.tables) l.number)) ≤ (expression_at (view l.tables) l.number).weight)

@@ -8,7 +8,7 @@ invariant_of-self c =
     let s = c.args.self.now in
     let bs = c.args.bytes.now in
     let at = c.args.offset in
-    (mid_length s.bytes bs c.copy_from_slice.new.self at (at + length bs - at) c.copy_from_slice.ensures.after (omega arith) (omega arith) ∙ s.whole, tt)
+    record { whole = mid_length s.bytes bs c.copy_from_slice.new.self at (at + length bs - at) c.copy_from_slice.ensures.after (omega arith) (omega arith) ∙ s.whole }
 
 pub returns : goal.returns
 returns c =

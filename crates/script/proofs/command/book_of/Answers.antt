@@ -5,4 +5,4 @@ use Rattle.script.proofs.Counts.{double_at}
 use Rattle.script.proofs.command.book_of.Goals as goal
 
 pub returns : goal.returns
-returns c = c.book-lengths.ensures ∙ double_at book_lengths (words_in c.args.text.now) _ _ c.in-ok-words.ensures
+returns c = c.book_lengths.ensures ∙ double_at book_lengths (words_in c.args.text.now) _ _ c.in_ok-words.ensures
