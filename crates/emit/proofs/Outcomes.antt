@@ -12,7 +12,7 @@ use Rattle.dwarf.specs.Tokens.{Tokens, done, code, unsigned, signed, fixed, disp
 use Rattle.book_state.specs.State.{State, expression_at}
 use Rattle.book_state.specs.Whole.{Whole}
 use Rattle.book_tree.specs.Store.{tree_in}
-use Rattle.check.specs.Counts.{tally, counted}
+use Rattle.checking.specs.Counts.{tally, counted}
 use Rattle.expression.specs.Sealed.{tree_at}
 use Rattle.positions.specs.Ends.{Filled}
 use Rattle.rules.specs.Encode.{encode, encode_tree, starts}

@@ -14,7 +14,7 @@ use book::book::Book;
 use common::encoding::{Encoding, Format};
 use common::error::Error;
 use common::fixup::DebugInfoFixup;
-use emit::expression::write_expression;
+use emit::write::write_expression;
 use expression::size_of;
 use fields::patch::write_udata_at;
 use section_tables::tables::Tables;

@@ -3,7 +3,7 @@ use Rattle.op.specs.declared.operation.Operation.{Operation}
 use Rattle.op.specs.declared.operation.Operation.TheVariants as op
 use Rattle.book_state.specs.Operations.{shape}
 use Rattle.book_tables.specs.View.{view}
-use Rattle.check.proofs.Counting.{after_three}
+use Rattle.checking.proofs.Counting.{after_three}
 use Rattle.rules.specs.Encode.{encode_op}
 use Rattle.rules.specs.Operands.{after_branch, displaced}
 use Rattle.rules.specs.Results.{and_then}

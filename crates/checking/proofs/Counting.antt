@@ -17,7 +17,7 @@ use Rattle.rules.specs.Operands.{by_version, displaced}
 use Rattle.rules.specs.Results.{and_then, amount}
 use Rattle.rules.specs.Scope.{Scope}
 use Rattle.rules.specs.Tree as tree
-use Rattle.check.specs.Counts.{tally, counted, encode_by}
+use Rattle.checking.specs.Counts.{tally, counted, encode_by}
 
 pub made_le : (r : Result ℕ Error) (m n : ℕ) → m ≤ n → IfOk r (λ k. k ≤ m) → IfOk r (λ k. k ≤ n)
 made_le (Ok k) m n l h = omega arith

@@ -12,7 +12,7 @@ use Rattle.unit.specs.Offsets.{scope_of}
 use Rattle.emit.specs.Walk.{come}
 use Rattle.emit.specs.Written.{written, Wrote}
 use Rattle.emit.proofs.Outcomes.{wrote_refused, wrote_all, size_known, written_many, written_full, written-fits, left-begin, walking_begin}
-use Rattle.emit.proofs.expression.write_expression.Goals as goal
+use Rattle.emit.proofs.write.write_expression.Goals as goal
 
 pub measure-expression-requires : goal.measure-expression-requires
 measure-expression-requires g c =

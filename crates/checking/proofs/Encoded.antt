@@ -13,7 +13,7 @@ use Rattle.rules.specs.Operands.{by_version}
 use Rattle.rules.specs.Results.{and_then, plus, amount}
 use Rattle.rules.specs.Scope.{Scope}
 use Rattle.rules.specs.Tree as tree
-use Rattle.check.specs.Counts.{tally, counted, encode_by}
+use Rattle.checking.specs.Counts.{tally, counted, encode_by}
 
 through : {X Y Z : Type 0} (r : Result X Error) (f : X → Y) (g : Y → Result Z Error) → and_then (and_then r (λ x. Ok (f x))) g ≡ and_then r (λ x. g (f x))
 through (Ok x) f g = refl

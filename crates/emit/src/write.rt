@@ -9,7 +9,7 @@ ghost use Rattle.emit.specs.Written.{written, Wrote};
 
 use crate::walk::emit;
 use book::book::Book;
-use check::check_expression;
+use checking::check_expression;
 use common::encoding::Encoding;
 use common::error::Error;
 use common::fixup::DebugInfoFixup;

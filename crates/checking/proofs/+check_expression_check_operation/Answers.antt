@@ -13,14 +13,14 @@ use Rattle.book_tree.proofs.Sums.{plus_start}
 use Rattle.book_tree.proofs.Trees.{tree_is, depth_at, operations_more, operations_all, length_operations}
 use Rattle.positions.proofs.Filling.{filled-own, filled_inner}
 use Rattle.positions.proofs.Starts.{starts_first, next_start}
-use Rattle.check.specs.Counts.{counted, encode_at}
-use Rattle.check.proofs.Encoded.{rows_encode, count_more, count_stop, count_all}
-use Rattle.check.proofs.Counting.{made_le, after_three, branching_count, plain-count}
-use Rattle.check.proofs.+check_expression_check_operation.Goals as goal
+use Rattle.checking.specs.Counts.{counted, encode_at}
+use Rattle.checking.proofs.Encoded.{rows_encode, count_more, count_stop, count_all}
+use Rattle.checking.proofs.Counting.{made_le, after_three, branching_count, plain-count}
+use Rattle.checking.proofs.+check_expression_check_operation.Goals as goal
 
-pub check-expression-loop-i-init : goal.check-expression-loop-i-init
-check-expression-loop-i-init t c =
-    let b = view c.args.tables.now in let k = c.args.number in let e = c.args.encoding in let s = scope_of c.args.unit-offsets in
+pub check_expression-loop-i-init : goal.check_expression-loop-i-init
+check_expression-loop-i-init t c =
+    let b = view c.args.tables.now in let k = c.args.number in let e = c.args.encoding in let s = scope_of c.args.unit_offsets in
     let hs = starts e s 0 (tree_in b k) in
     let w = c.requires.whole.weighed k c.requires.there in (
       plus_start (counted (rows_encode e s b hs (get_or hs 0 0) (operations_of b k)))
@@ -29,45 +29,45 @@ check-expression-loop-i-init t c =
       omega arith,
     )
 
-pub check-expression-check-operation-requires : goal.check-expression-check-operation-requires
-check-expression-check-operation-requires t c =
+pub check_expression-check_operation-requires : goal.check_expression-check_operation-requires
+check_expression-check_operation-requires t c =
     let b = view c.args.tables.now in
     let d = depth_at b c.requires.whole c.args.number c.loop-i.i c.requires.there c.loop-i-test.true in
     (search rules, (c.requires.whole, (c.requires.there, (c.loop-i-test.true, (c.requires.wide, c.requires.filled)))))
 
-pub check-expression-returns-in-err-one : goal.check-expression-returns-in-err-one
-check-expression-returns-in-err-one t c =
-    let b = view c.args.tables.now in let k = c.args.number in let e = c.args.encoding in let s = scope_of c.args.unit-offsets in
+pub check_expression-returns-in_err-one : goal.check_expression-returns-in_err-one
+check_expression-returns-in_err-one t c =
+    let b = view c.args.tables.now in let k = c.args.number in let e = c.args.encoding in let s = scope_of c.args.unit_offsets in
     let hs = starts e s 0 (tree_in b k) in let i = c.loop-i.i in
-    let p = err_from_is_err_and c.from-residual.result c.from-residual.ensures.1 in
+    let p = err_from_is_err_and c.from_residual.result c.from_residual.ensures.1 in
     let m = operations_more b c.requires.whole k i c.requires.there c.loop-i-test.true in
     rw (p.1, p.2) (record {
-      value = count_stop e s b hs (get_or hs i 0) (drop i (operations_of b k)) c.loop-i.count _ _ _ c.in-err-one.field-0.0 m c.in-err-one.ensures.value c.loop-i.invariant.0;
+      value = count_stop e s b hs (get_or hs i 0) (drop i (operations_of b k)) c.loop-i.count _ _ _ c.in_err-one.field-0.0 m c.in_err-one.ensures.value c.loop-i.invariant.0;
       few = tt;
     })
 
-pub check-expression-loop-i-preserved : goal.check-expression-loop-i-preserved
-check-expression-loop-i-preserved t c =
-    let b = view c.args.tables.now in let k = c.args.number in let e = c.args.encoding in let s = scope_of c.args.unit-offsets in
+pub check_expression-loop-i-preserved : goal.check_expression-loop-i-preserved
+check_expression-loop-i-preserved t c =
+    let b = view c.args.tables.now in let k = c.args.number in let e = c.args.encoding in let s = scope_of c.args.unit_offsets in
     let hs = starts e s 0 (tree_in b k) in let i = c.loop-i.i in let st = (expression_at b k).start in
     let x = op_at b (st + i) in
     let m = operations_more b c.requires.whole k i c.requires.there c.loop-i-test.true in
     let w : weight_of b.expressions (drop i (operations_of b k)) ≡ weight_by b.expressions (shape x) + weight_of b.expressions (drop (i + 1) (operations_of b k)) =
     ap (weight_of b.expressions) m in
-    let l = c.in-ok-one.ensures.few in
+    let l = c.in_ok-one.ensures.few in
     let n = length_operations b c.requires.whole k c.requires.there in
     let q : i < length (operations_of b k) = omega (arith, c.loop-i-test.true) in
     let ts = tree_is b c.requires.whole k c.requires.there in
     let nx : get_or hs (i + 1) 0 ≡ get_or hs i 0 + amount (size_in e s b x) =
     ap (λ y. get_or (starts e s 0 y) (i + 1) 0) ts ∙ (next_start e s b i 0 (operations_of b k) (drop (i + 1) (operations_of b k)) x q m ∙ sym (ap (λ y. get_or (starts e s 0 y) i 0 + amount (size_in e s b x)) ts)) in (
-      ap (λ (p : ℕ). plus (Ok (c.loop-i.count + c.in-ok-one.one)) (counted (rows_encode e s b hs p (drop (i + 1) (operations_of b k))))) nx
-          ∙ count_more e s b hs (get_or hs i 0) (drop i (operations_of b k)) c.loop-i.count _ x (drop (i + 1) (operations_of b k)) c.in-ok-one.one m c.in-ok-one.ensures.value c.loop-i.invariant.0,
+      ap (λ (p : ℕ). plus (Ok (c.loop-i.count + c.in_ok-one.one)) (counted (rows_encode e s b hs p (drop (i + 1) (operations_of b k))))) nx
+          ∙ count_more e s b hs (get_or hs i 0) (drop i (operations_of b k)) c.loop-i.count _ x (drop (i + 1) (operations_of b k)) c.in_ok-one.one m c.in_ok-one.ensures.value c.loop-i.invariant.0,
       omega (arith, c.loop-i.invariant.1),
     )
 
-pub check-expression-returns : goal.check-expression-returns
-check-expression-returns t c =
-    let b = view c.args.tables.now in let k = c.args.number in let e = c.args.encoding in let s = scope_of c.args.unit-offsets in
+pub check_expression-returns : goal.check_expression-returns
+check_expression-returns t c =
+    let b = view c.args.tables.now in let k = c.args.number in let e = c.args.encoding in let s = scope_of c.args.unit_offsets in
     let hs = starts e s 0 (tree_in b k) in
     let m = operations_all b c.requires.whole k c.loop-i.i c.requires.there c.loop-i-test.false in
     record {
@@ -75,54 +75,54 @@ check-expression-returns t c =
       few = omega (arith, c.loop-i.invariant.1);
     }
 
-pub check-operation-check-expression-requires : goal.check-operation-check-expression-requires
-check-operation-check-expression-requires t c =
+pub check_operation-check_expression-requires : goal.check_operation-check_expression-requires
+check_operation-check_expression-requires t c =
     let b = view c.args.tables.now in let k = c.args.number in let i = c.args.index in
     let m = c.in-EntryValue.inner in
     let q : shape (op_at b ((expression_at b k).start + i)) ≡ Nesting m = ap shape c.in-EntryValue.is in
     let d : depth_by b.expressions (shape (op_at b ((expression_at b k).start + i))) ≡ (expression_at b m).depth + 1 = ap (depth_by b.expressions) q in
     let h : m < b.sealed_count = subst (InBook b) q (inside_book b c.requires.whole k c.requires.there i c.requires.inside) in
-    (search rules, (c.requires.whole, (h, (c.requires.wide, filled_inner c.args.encoding (scope_of c.args.unit-offsets) b c.args.ends.now k c.requires.filled i m c.requires.inside q))))
+    (search rules, (c.requires.whole, (h, (c.requires.wide, filled_inner c.args.encoding (scope_of c.args.unit_offsets) b c.args.ends.now k c.requires.filled i m c.requires.inside q))))
 
-pub check-operation-displacement-requires : goal.check-operation-displacement-requires
-check-operation-displacement-requires t c =
+pub check_operation-displacement-requires : goal.check_operation-displacement-requires
+check_operation-displacement-requires t c =
     let b = view c.args.tables.now in let k = c.args.number in
     record {
       whole = c.requires.whole;
       there = c.requires.there;
       inside = c.requires.inside;
       wide = c.requires.wide;
-      small = λ j l. (filled-own c.args.encoding (scope_of c.args.unit-offsets) b c.args.ends.now k c.requires.filled j l k c.requires.there (omega arith) (omega arith)).1;
+      small = λ j l. (filled-own c.args.encoding (scope_of c.args.unit_offsets) b c.args.ends.now k c.requires.filled j l k c.requires.there (omega arith) (omega arith)).1;
     }
 
-pub check-operation-returns-in-err-displacement : goal.check-operation-returns-in-err-displacement
-check-operation-returns-in-err-displacement t c =
-    let b = view c.args.tables.now in let k = c.args.number in let i = c.args.index in let e = c.args.encoding in let s = scope_of c.args.unit-offsets in
+pub check_operation-returns-in_err-displacement-in-Skip : goal.check_operation-returns-in_err-displacement-in-Skip
+check_operation-returns-in_err-displacement-in-Skip t c =
+    let b = view c.args.tables.now in let k = c.args.number in let i = c.args.index in let e = c.args.encoding in let s = scope_of c.args.unit_offsets in
     let hs = starts e s 0 (tree_in b k) in
-    let p = err_from_is_err_and c.from-residual.result c.from-residual.ensures.1 in
+    let p = err_from_is_err_and c.from_residual.result c.from_residual.ensures.1 in
     let own = filled-own e s b c.args.ends.now k c.requires.filled in
     let n = after_three e s b c.requires.whole k i c.in-Skip.target c.requires.there c.requires.inside c.in-Skip.is in
     rw (p.1, p.2) (record {
-      value = branching_count e s b hs (get_or hs i 0) (op_at b ((expression_at b k).start + i)) c.in-Skip.target (get_or hs (i + 1) 0) (Err c.in-err-displacement.field-0.0) c.in-Skip.is n (c.in-err-displacement.ensures e s own);
+      value = branching_count e s b hs (get_or hs i 0) (op_at b ((expression_at b k).start + i)) c.in-Skip.target (get_or hs (i + 1) 0) (Err c.in_err-displacement-in-Skip.field-0.0) c.in-Skip.is n (c.in_err-displacement-in-Skip.ensures e s own);
       few = tt;
     })
 
-pub check-operation-returns-in-ok-displacement : goal.check-operation-returns-in-ok-displacement
-check-operation-returns-in-ok-displacement t c =
-    let b = view c.args.tables.now in let k = c.args.number in let i = c.args.index in let e = c.args.encoding in let s = scope_of c.args.unit-offsets in
+pub check_operation-returns-in_ok-displacement-in-Skip : goal.check_operation-returns-in_ok-displacement-in-Skip
+check_operation-returns-in_ok-displacement-in-Skip t c =
+    let b = view c.args.tables.now in let k = c.args.number in let i = c.args.index in let e = c.args.encoding in let s = scope_of c.args.unit_offsets in
     let hs = starts e s 0 (tree_in b k) in
     let own = filled-own e s b c.args.ends.now k c.requires.filled in
     let n = after_three e s b c.requires.whole k i c.in-Skip.target c.requires.there c.requires.inside c.in-Skip.is in
     record {
-      value = branching_count e s b hs (get_or hs i 0) (op_at b ((expression_at b k).start + i)) c.in-Skip.target (get_or hs (i + 1) 0) (Ok c.in-ok-displacement.field-0) c.in-Skip.is n (c.in-ok-displacement.ensures e s own);
+      value = branching_count e s b hs (get_or hs i 0) (op_at b ((expression_at b k).start + i)) c.in-Skip.target (get_or hs (i + 1) 0) (Ok c.in_ok-displacement-in-Skip.field-0) c.in-Skip.is n (c.in_ok-displacement-in-Skip.ensures e s own);
       few = omega arith;
     }
 
-pub check-operation-returns-in-default : goal.check-operation-returns-in-default
-check-operation-returns-in-default t c =
-    let b = view c.args.tables.now in let k = c.args.number in let i = c.args.index in let e = c.args.encoding in let s = scope_of c.args.unit-offsets in
+pub check_operation-returns-in_default : goal.check_operation-returns-in_default
+check_operation-returns-in_default t c =
+    let b = view c.args.tables.now in let k = c.args.number in let i = c.args.index in let e = c.args.encoding in let s = scope_of c.args.unit_offsets in
     let hs = starts e s 0 (tree_in b k) in let x = op_at b ((expression_at b k).start + i) in
     record {
-      value = plain-count e s b hs (get_or hs i 0) x c.check-plain.result (inside_book b c.requires.whole k c.requires.there i c.requires.inside) c.in-default.not-EntryValue c.in-default.not-Skip c.in-default.not-Branch c.check-plain.ensures.value;
-      few = made_le c.check-plain.result 1 (weight_by b.expressions (shape x)) (omega arith) c.check-plain.ensures.few;
+      value = plain-count e s b hs (get_or hs i 0) x c.check_plain.result (inside_book b c.requires.whole k c.requires.there i c.requires.inside) c.in_default.not-EntryValue c.in_default.not-Skip c.in_default.not-Branch c.check_plain.ensures.value;
+      few = made_le c.check_plain.result 1 (weight_by b.expressions (shape x)) (omega arith) c.check_plain.ensures.few;
     }

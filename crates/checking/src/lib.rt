@@ -8,7 +8,7 @@ ghost use Rattle.book_state.specs.State.{data_by, expression_at, op_at, weight_b
 ghost use Rattle.book_state.specs.Whole.{Whole};
 ghost use Rattle.book_tables.specs.View.{view};
 ghost use Rattle.book_tree.specs.Store.{tree_in};
-ghost use Rattle.check.specs.Counts.{counted, encode_at};
+ghost use Rattle.checking.specs.Counts.{counted, encode_at};
 ghost use Rattle.positions.specs.Ends.{Filled};
 ghost use Rattle.rules.specs.Encode.{encode_op, encode_tree, starts};
 ghost use Rattle.unit.specs.Offsets.{scope_of};
