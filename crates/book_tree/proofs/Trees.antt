@@ -1,15 +1,14 @@
 -- The tree of a sealed expression, operation by operation: no level is cut off.
-use Rattle.std.proofs.Common.{◌≡◌, ℕ, zero, suc, ◌+◌, ◌<◌, ◌≤◌, max, List, [], ◌∷◌, length, get_or, drop, sym, refl, ap, ◌∙◌, subst, ⊎_elim, arith}
+use Rattle.std.proofs.Common.{◌≡◌, ℕ, zero, suc, ◌+◌, ◌<◌, ◌≤◌, max, List, [], ◌∷◌, length, get_or, drop, sym, refl, ap, ◌∙◌, subst, arith}
 use Rattle.op.specs.declared.operation.Operation.{Operation}
-use Rattle.op.specs.declared.operation.Operation.TheVariants as op
 use Rattle.book_state.specs.declared.shape.Shape.{Shape}
 use Rattle.book_state.specs.declared.shape.Shape.TheVariants.{Plain, Holding, Branching, Nesting}
 use Rattle.book_state.specs.Operations.{shape}
-use Rattle.book_state.specs.State.{State, op_at, no_operation, expression_at, operations_of, depth_by, depth_of, gathered}
+use Rattle.book_state.specs.State.{State, op_at, no_operation, expression_at, operations_of, depth_by, gathered}
 use Rattle.book_state.specs.Whole.{Whole}
 use Rattle.book_state.proofs.Slices.{length-slice, slice_at, slice_more, slice_all}
 use Rattle.rules.specs.Tree as tree
-use Rattle.book_tree.specs.Store.{store_of, tree_in, row_of}
+use Rattle.book_tree.specs.Store.{store_of, tree_in}
 use Rattle.book_tree.proofs.Shapes.{brought, shape_is, row_at, nested_before, within}
 
 -- two ways to give nested trees that agree where operations nest

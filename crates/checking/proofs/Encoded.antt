@@ -8,7 +8,7 @@ use Rattle.op.specs.declared.operation.Operation.{Operation}
 use Rattle.book_state.specs.State.{State}
 use Rattle.book_tree.specs.Store.{store_of, tree_in, size_by, size_in}
 use Rattle.book_tree.proofs.Sums.{plus-plus}
-use Rattle.rules.specs.Encode.{encode_op, encode_tree, starts}
+use Rattle.rules.specs.Encode.{encode_tree, starts}
 use Rattle.rules.specs.Operands.{by_version}
 use Rattle.rules.specs.Results.{and_then, plus, amount}
 use Rattle.rules.specs.Scope.{Scope}

@@ -1,13 +1,13 @@
 -- The claim of every run, and what carries it on through a call.
-use Rattle.std.proofs.Common.{◌≡◌, List, [], ◌∷◌, length, sym, refl, ap, ◌∙◌, subst}
+use Rattle.std.proofs.Common.{◌≡◌, List, [], ◌∷◌, sym, refl, ap, ◌∙◌, subst}
 use Rattle.claim.specs.Section.{State, New}
-use Rattle.claim.specs.Calls.{Call, Event, Answer, event, answer, after, state, History, history}
-use Rattle.claim.specs.History.{laid, filled_by, fills}
-use Rattle.claim.specs.Claim.{Told, Made, made, calls, Runs, Claim, Kept, Steady, Onward, Carries, Stepped, CallsCarry}
+use Rattle.claim.specs.Calls.{Call, Answer, event, answer, after, state, history}
+use Rattle.claim.specs.History.{laid, fills}
+use Rattle.claim.specs.Claim.{Told, Made, made, calls, Runs, Claim, Kept, Steady, Carries, Stepped, CallsCarry}
 use Rattle.claim.proofs.Events.{sound}
 use Rattle.claim.proofs.Steps.{Holds, holds}
 use Rattle.claim.proofs.Telling.{told}
-use Rattle.claim.proofs.Keeping.{Stays, stays, Later, calls-keep}
+use Rattle.claim.proofs.Keeping.{stays, calls-keep}
 use Rattle.claim.proofs.Foretelling.{foretold}
 
 reached : (s₀ : State) (ds : List Made) (s : State) → Runs s₀ ds s → state s₀ (calls ds) ≡ s

@@ -1,14 +1,13 @@
 -- Pieces of a section one after the other: their bytes, sizes and references.
-use Rattle.std.proofs.Common.{◌≡◌, ℕ, ◌+◌, ◌<◌, ◌≤◌, Bool, ◌⊎◌, List, [], ◌∷◌, ◌++◌, length, take, drop, sym, refl, ap, ◌∙◌, subst, ap₂, inl, inr, append_assoc, add_assoc, arith, length-append, take_at, drop_at}
+use Rattle.std.proofs.Common.{◌≡◌, ℕ, ◌+◌, ◌<◌, ◌≤◌, Bool, List, [], ◌∷◌, ◌++◌, length, take, drop, sym, refl, ap, ◌∙◌, subst, ap₂, inl, inr, append_assoc, add_assoc, arith, length-append, take_at, drop_at}
 use Rattle.common.specs.declared.fixup.DebugInfoFixup.{DebugInfoFixup}
 use Rattle.dwarf.specs.Fixed.{fixed_bytes}
 use Rattle.dwarf.specs.Tokens.{Tokens}
 use Rattle.dwarf.specs.Bytes.{bytes_of, size_of}
 use Rattle.dwarf.specs.References.{references, shown, Wide, In, put, patched}
 use Rattle.dwarf.proofs.Sizes.{length-shown}
-use Rattle.dwarf.proofs.Standing.{references_stand}
 use Rattle.dwarf.proofs.Placeholders.{in_append, Inside, inside, shown_same, put_other, wide_in}
-use Rattle.dwarf.proofs.Patching.{Differ, shown_differ, patches}
+use Rattle.dwarf.proofs.Patching.{shown_differ, patches}
 use Rattle.claim.specs.History.{Chunk, content, layout, sizes, set_down}
 use Rattle.claim.specs.Claim.{Rising}
 use Rattle.claim.proofs.Fixups.{rising_append, rising_tokens}

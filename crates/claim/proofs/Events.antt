@@ -1,5 +1,5 @@
 -- What is known of each call that is not refused.
-use Rattle.std.proofs.Common.{◌≡◌, ℕ, ◌+◌, ◌^◌, ◌<◌, ◌≤◌, Bool, true, false, cond, not, ◌&&◌, eqb, ltb, leb, List, [], ◌∷◌, length, is_some, Some, None, Ok, Err, Option, Result, sym, refl, ap, ◌∙◌, subst, arith}
+use Rattle.std.proofs.Common.{◌≡◌, ℕ, ◌+◌, ◌^◌, ◌<◌, ◌≤◌, Bool, true, false, not, ltb, leb, length, is_some, Some, None, Ok, Err, Option, Result, refl, arith}
 use Rattle.std.proofs.lemmas.Bool.{ltb-false, leb-false, leb-true, eqb-false, not-false}
 use Rattle.common.specs.declared.encoding.Encoding.{Encoding}
 use Rattle.common.specs.declared.error.Error.{Error}
@@ -18,12 +18,11 @@ use Rattle.common.specs.declared.fixup.DebugInfoFixup.{DebugInfoFixup}
 use Rattle.dwarf.specs.Tokens.{Tokens}
 use Rattle.dwarf.specs.Bytes.{size_of}
 use Rattle.dwarf.specs.References.{references, In}
-use Rattle.rules.specs.Scope.{Scope, in_frame}
+use Rattle.rules.specs.Scope.{in_frame}
 use Rattle.rules.specs.Tree.{Tree}
 use Rattle.rules.specs.Sizes.{size_tree}
 use Rattle.rules.specs.Encode.{encode}
 use Rattle.unit.specs.Offsets.{unit_scope}
-use Rattle.unit.specs.declared.UnitOffsets.{UnitOffsets}
 use Rattle.claim.specs.Section.{State, fits, last_number, last_unit, entry_offset}
 use Rattle.claim.specs.Calls.{
   Call,

@@ -1,12 +1,12 @@
 -- Lists of references: those that a test keeps, the first at an offset, and their order.
-use Rattle.std.proofs.Common.{◌≡◌, ℕ, ◌+◌, ◌<◌, ◌≤◌, Bool, true, false, cond, not, ◌&&◌, eqb, leb, ◌⊎◌, List, [], ◌∷◌, ◌++◌, length, Some, None, Option, sym, refl, ap, ◌∙◌, subst, inl, inr, arith}
+use Rattle.std.proofs.Common.{◌≡◌, ℕ, ◌+◌, ◌<◌, ◌≤◌, Bool, true, false, cond, not, ◌&&◌, eqb, leb, List, [], ◌∷◌, ◌++◌, length, Some, sym, refl, ap, ◌∙◌, inl, inr, arith}
 use Rattle.std.proofs.lemmas.Bool.{ne_eqb, eqb-true, le-leb}
 use Rattle.common.specs.declared.fixup.DebugInfoFixup.{DebugInfoFixup}
 use Rattle.dwarf.specs.Leb.{uleb, sleb}
 use Rattle.dwarf.specs.Tokens.{Tokens, done, code, unsigned, signed, fixed, displacement, block, short, nested, reference, raw}
 use Rattle.dwarf.specs.Bytes.{size_of}
 use Rattle.dwarf.specs.References.{references, Wide, In}
-use Rattle.dwarf.proofs.Placeholders.{Inside, inside}
+use Rattle.dwarf.proofs.Placeholders.{inside}
 use Rattle.claim.specs.Calls.{stands_at, first_of, without_first}
 use Rattle.claim.specs.History.{keep}
 use Rattle.claim.specs.Claim.{Rising, Within}

@@ -1,5 +1,5 @@
 -- The size that is asked for just before a write is the number of bytes that it adds.
-use Rattle.std.proofs.Common.{◌≡◌, ℕ, ◌+◌, Bool, true, false, cond, not, ltb, length, Some, None, Ok, Err, Option, Result, sym, refl, ap, ◌∙◌, arith}
+use Rattle.std.proofs.Common.{◌≡◌, ℕ, ◌+◌, Bool, true, false, not, ltb, length, Some, None, Ok, Err, Option, Result, sym, refl, ap, ◌∙◌, arith}
 use Rattle.common.specs.declared.encoding.Encoding.{Encoding}
 use Rattle.common.specs.declared.error.Error.{Error}
 use Rattle.common.specs.declared.error.Error.TheVariants.{NoRoom, TooManyReferences, NoUnit, NoExpression}
@@ -12,36 +12,7 @@ use Rattle.rules.specs.Sizes.{size_tree}
 use Rattle.rules.specs.Encode.{encode}
 use Rattle.unit.specs.Offsets.{unit_scope}
 use Rattle.claim.specs.Section.{State, fits, last_unit}
-use Rattle.claim.specs.Calls.{
-  Call,
-  begin_unit,
-  append,
-  place_entry,
-  ask_size,
-  ask_frame_size,
-  write,
-  write_frame,
-  fill,
-  finish,
-  ask_pending,
-  Written,
-  Event,
-  refused,
-  sized,
-  wrote,
-  refused_if,
-  on_tree,
-  on_value,
-  none_begun,
-  with_room,
-  writing,
-  framing,
-  event,
-  Answer,
-  number,
-  refusal,
-  answer,
-}
+use Rattle.claim.specs.Calls.{Call, begin_unit, append, place_entry, ask_size, ask_frame_size, write, write_frame, fill, finish, ask_pending, Written, Event, sized, wrote, refused_if, on_tree, on_value, none_begun, with_room, writing, framing, event, Answer, number, refusal, answer}
 use Rattle.claim.specs.Claim.{Foretold}
 use Rattle.claim.proofs.Encoded.{accepted}
 

@@ -1,5 +1,5 @@
 -- What is encoded of a readable expression is well formed.
-use Rattle.std.proofs.Common.{◌≡◌, ℕ, ◌+◌, ◌^◌, ◌<◌, ◌≤◌, Bool, true, false, cond, ◌&&◌, ◌||◌, ltb, leb, List, [], ◌∷◌, length, ℤ, pos, negsuc, ◌-ℤ◌, Some, None, Ok, Err, Option, Result, refl, ap, ◌∙◌, subst, arith}
+use Rattle.std.proofs.Common.{◌≡◌, ℕ, ◌+◌, ◌^◌, ◌<◌, ◌≤◌, Bool, true, false, cond, ◌||◌, ltb, leb, List, [], ◌∷◌, ℤ, pos, negsuc, ◌-ℤ◌, Some, None, Ok, Err, Option, Result, refl, arith}
 use Rattle.std.proofs.lemmas.Bool.{false≢true, and_parts, and_from, or_left, or_right, ltb-true, le-leb}
 use Rattle.common.specs.Formats.{word_size}
 use Rattle.common.specs.declared.encoding.Encoding.{Encoding}
@@ -7,7 +7,7 @@ use Rattle.common.specs.declared.encoding.Format.{Format}
 use Rattle.common.specs.declared.encoding.Format.TheVariants.{Dwarf32, Dwarf64}
 use Rattle.common.specs.declared.error.Error.{Error}
 use Rattle.common.specs.declared.error.Error.TheVariants.{ValueTooLarge}
-use Rattle.dwarf.specs.Leb.{uleb, magnitude}
+use Rattle.dwarf.specs.Leb.{magnitude}
 use Rattle.dwarf.specs.Fixed.{is_width}
 use Rattle.dwarf.specs.Tokens.{Tokens, done, code, nested}
 use Rattle.dwarf.specs.Bytes.{size_of, joined}

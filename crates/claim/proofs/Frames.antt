@@ -1,10 +1,9 @@
 -- A frame expression holds no reference.
-use Rattle.std.proofs.Common.{◌≡◌, ℕ, ◌+◌, List, [], ◌++◌, length, ℤ, Ok, Err, Option, Result, sym, refl, ap, ◌∙◌, ap₂, arith}
+use Rattle.std.proofs.Common.{◌≡◌, ℕ, ◌+◌, [], ◌++◌, length, ℤ, Ok, Option, Result, sym, refl, ap, ◌∙◌, ap₂}
 use Rattle.common.specs.Formats.{word_size}
 use Rattle.common.specs.declared.encoding.Encoding.{Encoding}
 use Rattle.common.specs.declared.error.Error.{Error}
 use Rattle.common.specs.declared.error.Error.TheVariants.{InvalidReference}
-use Rattle.common.specs.declared.fixup.DebugInfoFixup.{DebugInfoFixup}
 use Rattle.dwarf.specs.Leb.{uleb}
 use Rattle.dwarf.specs.Tokens.{Tokens, done, code, signed, nested}
 use Rattle.dwarf.specs.Bytes.{size_of, joined}
@@ -12,7 +11,6 @@ use Rattle.dwarf.specs.References.{references}
 use Rattle.dwarf.proofs.Joining.{references-joined}
 use Rattle.op.specs.declared.operation.DebugInfoRef.{DebugInfoRef}
 use Rattle.op.specs.declared.operation.DebugInfoRef.TheVariants.{Entry}
-use Rattle.op.specs.declared.operation.Operation.{Operation}
 use Rattle.rules.specs.Results.{and_then}
 use Rattle.rules.specs.Encode.{encode_op, encode}
 use Rattle.rules.specs.Operands.{referred, by_version}
@@ -21,7 +19,7 @@ use Rattle.rules.specs.Sizes.{pointer_size}
 use Rattle.rules.specs.Tree.{Tree}
 use Rattle.rules.proofs.Results.{not_refused}
 use Rattle.rules.proofs.Rows.{Rows, by_rows}
-use Rattle.rules.proofs.Trees.{Grows, by_growth_whole}
+use Rattle.rules.proofs.Trees.{by_growth_whole}
 
 abbrev NoneIn : Tokens → Type 0
 NoneIn a = (at : ℕ) → references at a ≡ []

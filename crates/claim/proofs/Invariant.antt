@@ -1,5 +1,5 @@
 -- What holds between a section at first, the section now, and what the calls between have laid down and filled.
-use Rattle.std.proofs.Common.{◌≡◌, ℕ, zero, suc, ◌+◌, ◌^◌, ◌<◌, ◌≤◌, Bool, true, false, cond, not, eqb, ◌⊎◌, List, [], ◌∷◌, ◌++◌, length, Some, sym, refl, ap, ◌∙◌, subst, ap₂, inl, inr, append_assoc, append-nil, pow-suc, arith, length-append}
+use Rattle.std.proofs.Common.{◌≡◌, ℕ, zero, suc, ◌+◌, ◌^◌, ◌<◌, ◌≤◌, Bool, true, false, cond, not, eqb, List, [], ◌∷◌, ◌++◌, length, Some, sym, refl, ap, ◌∙◌, subst, inl, inr, append_assoc, append-nil, pow-suc, arith, length-append}
 use Rattle.std.proofs.lemmas.Bool.{cases_eq, eq-eqb, ne_eqb, not-true}
 use Rattle.common.specs.declared.fixup.DebugInfoFixup.{DebugInfoFixup}
 use Rattle.dwarf.specs.Fixed.{fixed_bytes}
@@ -7,7 +7,7 @@ use Rattle.dwarf.specs.Tokens.{Tokens}
 use Rattle.dwarf.specs.Bytes.{bytes_of, size_of}
 use Rattle.dwarf.specs.References.{references, shown, Wide, In, put, patched}
 use Rattle.dwarf.proofs.Standing.{references_stand}
-use Rattle.dwarf.proofs.Placeholders.{in_append, in_left, Inside, inside, shown_same, put_other, put_here}
+use Rattle.dwarf.proofs.Placeholders.{in_append, in_left, inside, shown_same, put_other, put_here}
 use Rattle.unit.specs.declared.UnitOffsets.{UnitOffsets}
 use Rattle.claim.specs.Section.{entry_offset}
 use Rattle.claim.specs.Calls.{stands_at, without_first}

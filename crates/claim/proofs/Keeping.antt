@@ -1,5 +1,5 @@
 -- No byte that is there changes outside the placeholders that are filled.
-use Rattle.std.proofs.Common.{◌≡◌, ℕ, ◌+◌, ◌-◌, ◌<◌, ◌≤◌, ◌⊎◌, List, [], ◌∷◌, ◌++◌, length, get_or, take, drop, sym, refl, ap, ◌∙◌, subst, inl, inr, arith, length-append, length-take-le, get_or-drop, get_or-take, get_or-append-add}
+use Rattle.std.proofs.Common.{◌≡◌, ℕ, ◌+◌, ◌-◌, ◌<◌, ◌≤◌, List, [], ◌∷◌, ◌++◌, length, get_or, take, drop, refl, ap, ◌∙◌, subst, inl, inr, arith, length-append, length-take-le, get_or-drop, get_or-take, get_or-append-add}
 use lib.ListN.{get_or-append}
 use Rattle.std.proofs.lemmas.Bool.{cases_lt}
 use Rattle.common.specs.declared.fixup.DebugInfoFixup.{DebugInfoFixup}
@@ -7,8 +7,7 @@ use Rattle.dwarf.specs.Fixed.{fixed_bytes}
 use Rattle.dwarf.specs.Bytes.{bytes_of}
 use Rattle.dwarf.specs.References.{patched}
 use Rattle.dwarf.proofs.Widths.{length_fixed}
-use Rattle.dwarf.proofs.Placeholders.{Inside}
-use Rattle.claim.specs.Section.{State, New}
+use Rattle.claim.specs.Section.{State}
 use Rattle.claim.specs.Calls.{
   Call,
   Event,
@@ -31,7 +30,7 @@ use Rattle.claim.specs.Calls.{
 use Rattle.claim.specs.History.{Chunk, laid_by, laid, Fill, filled_by, fills}
 use Rattle.claim.specs.Claim.{Covered, Kept}
 use Rattle.claim.proofs.Chunks.{set_down_inside}
-use Rattle.claim.proofs.Invariant.{Invariant, long, pending_open}
+use Rattle.claim.proofs.Invariant.{long, pending_open}
 use Rattle.claim.proofs.Events.{Sound, sound}
 use Rattle.claim.proofs.Steps.{Holds, hold}
 

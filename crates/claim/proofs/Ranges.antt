@@ -1,9 +1,9 @@
 -- Expressions made of operations whose operands are in range.
-use Rattle.std.proofs.Common.{◌≡◌, ℕ, zero, suc, List, [], ◌∷◌, take, drop, refl}
+use Rattle.std.proofs.Common.{ℕ, zero, suc, List, [], ◌∷◌, drop}
 use Rattle.std.specs.List.{AllByRecursion as All}
 use Rattle.std.proofs.ByRecursion.{All-take, All-drop}
 use Rattle.op.specs.declared.operation.Operation.{Operation}
-use Rattle.rules.specs.Tree.{Store, Tree, Shape, single, nesting, shape, grow, rows, expression_at, tree_of}
+use Rattle.rules.specs.Tree.{Store, Tree, Shape, grow, rows, expression_at, tree_of}
 use Rattle.rules.proofs.Shapes.{Shaped, is_single, is_nesting, shaped}
 use Rattle.claim.specs.Fits.{FitsOperation, Fits, TreesFit}
 

@@ -1,14 +1,13 @@
 -- Every call keeps what holds of a section.
-use Rattle.std.proofs.Common.{◌≡◌, ℕ, ◌+◌, ◌-◌, ◌^◌, ◌<◌, ◌≤◌, Bool, true, ◌⊎◌, List, [], ◌∷◌, ◌++◌, length, Some, None, Ok, Err, Option, sym, refl, ap, ◌∙◌, subst, inl, inr, append-nil, arith, length-append}
+use Rattle.std.proofs.Common.{◌≡◌, ℕ, ◌+◌, ◌-◌, ◌^◌, ◌<◌, ◌≤◌, true, List, [], ◌∷◌, ◌++◌, length, Some, None, Ok, Option, sym, refl, ap, ◌∙◌, subst, inl, inr, append-nil, arith, length-append}
 use Rattle.common.specs.declared.encoding.Encoding.{Encoding}
 use Rattle.common.specs.declared.fixup.DebugInfoFixup.{DebugInfoFixup}
 use Rattle.dwarf.specs.Fixed.{fixed_bytes}
-use Rattle.dwarf.specs.Tokens.{Tokens, done, raw}
 use Rattle.dwarf.specs.Bytes.{bytes_of, size_of}
 use Rattle.dwarf.specs.References.{references, patched}
 use Rattle.dwarf.specs.WellFormed.{WellFormed}
 use Rattle.dwarf.proofs.Sizes.{length_bytes}
-use Rattle.rules.specs.Scope.{Scope, in_frame, in_unit, from_start, base_of}
+use Rattle.rules.specs.Scope.{in_frame, from_start}
 use Rattle.rules.specs.Readable.{readable}
 use Rattle.unit.specs.Offsets.{place_of, unit_scope}
 use Rattle.unit.specs.declared.UnitOffsets.{UnitOffsets}

@@ -1,13 +1,13 @@
 -- All that is told of a section holds of it.
-use Rattle.std.proofs.Common.{◌≡◌, ℕ, ◌+◌, ◌^◌, ◌<◌, ◌≤◌, Bool, true, false, cond, eqb, ◌⊎◌, List, [], ◌∷◌, ◌++◌, length, take, drop, Some, Option, sym, refl, ap, ◌∙◌, subst, inl, inr, arith, drop_at}
+use Rattle.std.proofs.Common.{◌≡◌, ℕ, ◌+◌, ◌^◌, ◌<◌, Bool, true, false, cond, eqb, List, [], ◌∷◌, ◌++◌, length, take, drop, Some, sym, refl, ap, ◌∙◌, subst, inl, inr, arith, drop_at}
 use Rattle.std.proofs.lemmas.Bool.{eqb-true}
 use Rattle.common.specs.declared.fixup.DebugInfoFixup.{DebugInfoFixup}
-use Rattle.dwarf.specs.Reader.{Got, and_then, ReadsBack}
+use Rattle.dwarf.specs.Reader.{and_then, ReadsBack}
 use Rattle.dwarf.specs.Fixed.{fixed_bytes, read_fixed}
 use Rattle.dwarf.specs.Bytes.{bytes_of, size_of}
 use Rattle.dwarf.specs.References.{references, shown, In}
 use Rattle.dwarf.specs.Reading.{read}
-use Rattle.dwarf.specs.WellFormed.{WellFormed, NumbersFit}
+use Rattle.dwarf.specs.WellFormed.{NumbersFit}
 use Rattle.dwarf.proofs.Sizes.{length-shown}
 use Rattle.dwarf.proofs.Widths.{fixed_reads_back}
 use Rattle.dwarf.proofs.Placeholders.{in_left, in_right}
@@ -18,11 +18,10 @@ use Rattle.claim.specs.Section.{State, New, entry_offset}
 use Rattle.claim.specs.Calls.{Call, Written, state, History, history}
 use Rattle.claim.specs.History.{Chunk, expression, content, laid, Fill, fills, numbers, closed, layout, sizes, set_down}
 use Rattle.claim.specs.Fits.{Fits}
-use Rattle.claim.specs.Claim.{FilledBy, PendingTold, Stands, NumbersTold, number_at, Closed, BytesTold, RulesTold, Told}
+use Rattle.claim.specs.Claim.{FilledBy, number_at, Closed, Told}
 use Rattle.claim.proofs.Fixups.{unique}
 use Rattle.claim.proofs.Chunks.{Standing, standing_part, chunk_stands, number_stands, set_down_append, set_down_rising}
-use Rattle.claim.proofs.Invariant.{Invariant, long, left_rising, left-within}
-use Rattle.claim.proofs.Encoded.{Encoded}
+use Rattle.claim.proofs.Invariant.{long, left_rising, left-within}
 use Rattle.claim.proofs.Steps.{Good, AllGood, good_at, Holds, holds}
 
 -- a number that stands in the bytes reads as itself

@@ -13,32 +13,7 @@ use Rattle.rules.specs.Encode.{encode}
 use Rattle.rules.specs.Readable.{readable}
 use Rattle.rules.specs.Branches.{marks, inners, Leads, Nested}
 use Rattle.claim.specs.Section.{State, New, entry_offset}
-use Rattle.claim.specs.Calls.{
-  Call,
-  begin_unit,
-  append,
-  place_entry,
-  ask_size,
-  ask_frame_size,
-  write,
-  write_frame,
-  fill,
-  finish,
-  ask_pending,
-  Written,
-  Event,
-  Answer,
-  ok,
-  number,
-  row,
-  refusal,
-  event,
-  answer,
-  after,
-  state,
-  History,
-  history,
-}
+use Rattle.claim.specs.Calls.{Call, begin_unit, append, place_entry, ask_size, ask_frame_size, write, write_frame, fill, finish, ask_pending, Written, Answer, ok, number, refusal, event, answer, after, state, History, history}
 use Rattle.claim.specs.History.{Chunk, expression, laid, Fill, fills, numbers, closed, layout, sizes, set_down, keep}
 use Rattle.claim.specs.Fits.{Fits}
 

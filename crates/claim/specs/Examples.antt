@@ -1,6 +1,5 @@
 -- Worked examples of a section's calls, evaluated on the definitions.
-use Rattle.std.specs.Prelude.{◌≡◌, ℕ, true, false, List, [], ◌∷◌, length, take, drop, replicate, pos, Some, None, Option}
-use Rattle.common.specs.declared.encoding.Encoding.{Encoding}
+use Rattle.std.specs.Prelude.{◌≡◌, ℕ, false, List, [], ◌∷◌, take, drop, replicate, pos, Some, None}
 use Rattle.common.specs.declared.error.Error.TheVariants.{
   ValueTooLarge,
   InvalidReference,
@@ -22,7 +21,7 @@ use Rattle.common.specs.declared.fixup.DebugInfoFixup.{DebugInfoFixup}
 use Rattle.op.specs.declared.operation.DebugInfoRef.TheVariants.{Entry}
 use Rattle.op.specs.declared.operation.Operation.TheVariants.{Simple, UnsignedConstant, CallRef, Convert, ImplicitPointer}
 use Rattle.rules.specs.Examples.{dwarf32, version5, row as in_a_row}
-use Rattle.rules.specs.Tree.{Tree, end, plain, nest}
+use Rattle.rules.specs.Tree.{Tree, nest}
 use Rattle.claim.specs.Section.{State}
 use Rattle.claim.specs.Calls.{
   Call,

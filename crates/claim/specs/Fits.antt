@@ -1,5 +1,5 @@
 -- The range of an operation's operands: every operation that a program holds has them in range.
-use Rattle.std.specs.Prelude.{ℕ, ◌^◌, ◌<◌, List}
+use Rattle.std.specs.Prelude.{ℕ, ◌^◌, ◌<◌}
 use Rattle.std.specs.List.{AllByRecursion as All}
 use Rattle.op.specs.declared.operation.Operation.{Operation}
 use Rattle.op.specs.declared.operation.Operation.TheVariants.{

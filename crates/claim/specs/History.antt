@@ -1,5 +1,5 @@
 -- What a history of calls has laid down in a section, and what it has filled.
-use Rattle.std.specs.Prelude.{ℕ, ◌+◌, Bool, true, false, cond, List, [], ◌∷◌, ◌++◌, length, ◌==◌}
+use Rattle.std.specs.Prelude.{ℕ, ◌+◌, Bool, true, false, cond, List, [], ◌∷◌, ◌++◌, ◌==◌}
 use Rattle.common.specs.declared.fixup.DebugInfoFixup.{DebugInfoFixup}
 use Rattle.dwarf.specs.Tokens.{Tokens, done, raw}
 use Rattle.dwarf.specs.Bytes.{bytes_of, size_of}

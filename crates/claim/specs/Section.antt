@@ -1,5 +1,5 @@
 -- What a section holds.
-use Rattle.std.specs.Prelude.{◌≡◌, ℕ, ◌+◌, ◌-◌, ◌≤◌, Bool, List, [], ◌∷◌, length, replicate, Some, None, Option, nat_le, slice_index_or, slice_set}
+use Rattle.std.specs.Prelude.{◌≡◌, ℕ, ◌+◌, ◌-◌, ◌≤◌, Bool, List, [], length, replicate, Some, None, Option, nat_le, slice_index_or, slice_set}
 use Rattle.common.specs.declared.encoding.Encoding.{Encoding}
 use Rattle.common.specs.declared.encoding.Format.TheVariants.{Dwarf32}
 use Rattle.common.specs.declared.fixup.DebugInfoFixup.{DebugInfoFixup}

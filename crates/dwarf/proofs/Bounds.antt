@@ -1,11 +1,11 @@
 -- What is known of the operands that are read from bytes.
-use Rattle.std.proofs.Common.{◌≡◌, ℕ, zero, suc, ◌+◌, ◌-◌, ◌*◌, ◌%◌, ◌^◌, ◌<◌, ◌≤◌, Bool, true, false, ◌⊎◌, List, [], ◌∷◌, reverse, length, get_or, ℤ, pos, negsuc, Some, None, Option, sym, refl, ap, ◌∙◌, subst, inl, inr, pow-suc, arith}
+use Rattle.std.proofs.Common.{◌≡◌, ℕ, zero, suc, ◌-◌, ◌*◌, ◌^◌, ◌<◌, Bool, true, false, List, [], ◌∷◌, reverse, length, ℤ, pos, negsuc, Some, sym, ap, ◌∙◌, subst, inl, inr, pow-suc, arith}
 use lib.ListN.{length-reverse}
 use Rattle.std.proofs.ByRecursion.{All-take, All-drop, All-get_or, All-from_get_or}
 use Rattle.std.proofs.lemmas.List.{get_or-reverse}
 use Rattle.std.proofs.lemmas.Bool.{cases_lt, lt-ltb, le-ltb, ltb-true, cond-true, cond-false}
-use Rattle.dwarf.specs.Reader.{Got, got, and_then, read_data, AllBytes}
-use Rattle.dwarf.specs.Leb.{read_groups, read_uleb, read_sgroups, read_sleb, magnitude, signed_seven, with_low_seven}
+use Rattle.dwarf.specs.Reader.{Got, got, read_data, AllBytes}
+use Rattle.dwarf.specs.Leb.{read_groups, read_uleb, read_sgroups, read_sleb, magnitude, signed_seven}
 use Rattle.dwarf.specs.Fixed.{number, lowest_first, read_fixed, signed_of}
 use Rattle.dwarf.specs.Reading.{read_counted, read_short}
 use Rattle.dwarf.proofs.Optional.{both, passed, test_passed}

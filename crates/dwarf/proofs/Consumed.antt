@@ -1,13 +1,13 @@
 -- How many bytes each operand takes.
-use Rattle.std.proofs.Common.{◌≡◌, ℕ, suc, ◌+◌, ◌<◌, ◌≤◌, Bool, ◌⊎◌, List, [], ◌∷◌, length, take, drop, ℤ, Some, None, Option, sym, refl, ap, ◌∙◌, inl, inr, arith, length-drop, length-take}
+use Rattle.std.proofs.Common.{◌≡◌, ℕ, ◌+◌, ◌≤◌, Bool, List, [], ◌∷◌, length, take, drop, ℤ, Some, None, Option, sym, ap, ◌∙◌, inl, inr, arith, length-drop, length-take}
 use Rattle.std.proofs.lemmas.Bool.{cases_lt, lt-leb, le-leb, cond-true, cond-false}
 use Rattle.dwarf.specs.Reader.{Got, got, read_data, Shortest}
 use Rattle.dwarf.specs.Leb.{uleb, sleb, read_uleb, read_sleb}
 use Rattle.dwarf.specs.Fixed.{read_fixed}
 use Rattle.dwarf.specs.Reading.{read_counted, read_short}
 use Rattle.dwarf.proofs.Optional.{both}
-use Rattle.dwarf.proofs.Uleb.{uleb_shortest, uleb_nonempty}
-use Rattle.dwarf.proofs.Sleb.{sleb_shortest, sleb_nonempty}
+use Rattle.dwarf.proofs.Uleb.{uleb_shortest}
+use Rattle.dwarf.proofs.Sleb.{sleb_shortest}
 
 pub uleb_consumes : (bytes : List ℕ) (g : Got ℕ) → read_uleb bytes ≡ Some g → length (uleb g.value) + length g.rest ≤ length bytes
 unfolding Shortest

@@ -1,16 +1,16 @@
 -- All that is read is well formed.
-use Rattle.std.proofs.Common.{◌≡◌, ℕ, zero, suc, ◌+◌, ◌^◌, ◌<◌, ◌≤◌, Bool, true, false, cond, List, [], ◌∷◌, ◌++◌, length, Some, None, Option, sym, refl, ap, ◌∙◌, subst, arith}
+use Rattle.std.proofs.Common.{◌≡◌, ℕ, zero, suc, ◌+◌, ◌^◌, ◌<◌, Bool, true, false, cond, List, [], ◌∷◌, length, Some, None, Option, refl, subst, arith}
 use Rattle.common.specs.declared.encoding.Encoding.{Encoding}
 use Rattle.dwarf.specs.Reader.{Got, and_then, AllBytes}
-use Rattle.dwarf.specs.Leb.{uleb, sleb, read_uleb, read_sleb}
+use Rattle.dwarf.specs.Leb.{uleb, read_uleb, read_sleb}
 use Rattle.dwarf.specs.Fixed.{is_width, read_fixed, signed_of}
 use Rattle.dwarf.specs.Tokens.{Tokens, done, code, unsigned, signed, fixed, displacement, block, short, nested}
 use Rattle.dwarf.specs.Codes.{Kind, unsigned_number, signed_number, number_of, branch_displacement, counted_data, short_data, nested_operations, operands}
 use Rattle.dwarf.specs.Bytes.{size_of}
 use Rattle.dwarf.specs.Reading.{read_counted, read_short, reading, read}
 use Rattle.dwarf.specs.References.{references}
-use Rattle.dwarf.specs.WellFormed.{WellFormed, at_end, at_code, at_unsigned, at_signed, at_fixed, at_displacement, at_block, at_short, at_nested, Found, ReadWellFormed}
-use Rattle.dwarf.proofs.Optional.{Both, both}
+use Rattle.dwarf.specs.WellFormed.{at_end, at_code, at_unsigned, at_signed, at_fixed, at_displacement, at_block, at_short, at_nested, Found, ReadWellFormed}
+use Rattle.dwarf.proofs.Optional.{both}
 use Rattle.dwarf.proofs.Uleb.{uleb_grows}
 use Rattle.dwarf.proofs.Consumed.{uleb_consumes, sleb_consumes, fixed_consumes, counted_consumes, short_consumes}
 use Rattle.dwarf.proofs.Bounds.{uleb_good, sleb_good, fixed_good, displacement_good, counted_good, short_good}

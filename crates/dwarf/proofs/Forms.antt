@@ -1,12 +1,11 @@
 -- Well-formed tokens: their references are wide, and numbers that fit keep the form.
-use Rattle.std.proofs.Common.{◌≡◌, ℕ, ◌+◌, ◌^◌, ◌<◌, ◌⊎◌, List, [], ◌∷◌, length, refl, inl, inr}
+use Rattle.std.proofs.Common.{ℕ, ◌+◌, List, length, refl, inl, inr}
 use Rattle.common.specs.declared.encoding.Encoding.{Encoding}
 use Rattle.dwarf.specs.Leb.{uleb, sleb}
 use Rattle.dwarf.specs.Tokens.{Tokens}
 use Rattle.dwarf.specs.Codes.{Kind}
 use Rattle.dwarf.specs.Bytes.{size_of}
-use Rattle.common.specs.declared.fixup.DebugInfoFixup.{DebugInfoFixup}
-use Rattle.dwarf.specs.References.{references, shown, Wide, In}
+use Rattle.dwarf.specs.References.{references, shown, Wide}
 use Rattle.dwarf.specs.WellFormed.{WellFormed, at_end, at_code, at_unsigned, at_signed, at_fixed, at_displacement, at_block, at_short, at_nested, at_reference, NumbersFit}
 use Rattle.dwarf.proofs.Widths.{width_positive}
 use Rattle.dwarf.proofs.Sizes.{size_shown}

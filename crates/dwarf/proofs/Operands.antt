@@ -1,9 +1,9 @@
 -- The operands of codes that stand in a range.
-use Rattle.std.proofs.Common.{◌≡◌, ℕ, ◌<◌, ◌≤◌, Bool, true, false, cond, ◌&&◌, ◌||◌, ltb, leb, ◌⊎◌, List, [], ◌∷◌, ◌++◌, take, drop, Some, sym, refl, ap, ◌∙◌, subst, inl, inr, arith}
+use Rattle.std.proofs.Common.{◌≡◌, ℕ, ◌<◌, ◌≤◌, Bool, true, ◌&&◌, ltb, leb, List, [], ◌∷◌, ◌++◌, take, drop, Some, sym, refl, ap, ◌∙◌, inl, inr, arith}
 use Rattle.std.proofs.lemmas.List.{take-append-drop}
-use Rattle.std.proofs.lemmas.Bool.{and_parts, and_right, and_from, or_cases, leb-true, ltb-true, le-leb, lt-leb, cond-true, cond-false}
+use Rattle.std.proofs.lemmas.Bool.{and_parts, and_right, or_cases, leb-true, ltb-true, lt-leb, cond-true, cond-false}
 use Rattle.common.specs.declared.encoding.Encoding.{Encoding}
-use Rattle.dwarf.specs.Codes.{Kind, signed_number, Row, table, lookup, operands, within, is_plain}
+use Rattle.dwarf.specs.Codes.{signed_number, Row, table, lookup, operands, within, is_plain}
 
 -- rows that end before a code
 abbrev pub before : ℕ → List Row → Bool

@@ -1,6 +1,6 @@
 -- Answers that may be missing.
 use Rattle.std.proofs.Common.{◌≡◌, ℕ, Bool, true, false, cond, List, Some, None, Option, refl, ap, arith}
-use Rattle.dwarf.specs.Reader.{Got, got, and_then}
+use Rattle.dwarf.specs.Reader.{got, and_then}
 
 -- an answer is there only if both are
 pub record Both {A B : Type 0} (first : Option A) (next : A → Option B) (b : B) : Type 0 where

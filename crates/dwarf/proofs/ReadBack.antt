@@ -1,15 +1,14 @@
 -- Well-formed tokens read back, at any nesting.
-use Rattle.std.proofs.Common.{◌≡◌, ℕ, zero, suc, ◌+◌, ◌-◌, ◌*◌, ◌^◌, ◌<◌, ◌≤◌, Bool, true, false, cond, ◌⊎◌, List, [], ◌∷◌, ◌++◌, length, ℤ, pos, negsuc, Some, None, Option, sym, refl, ap, ◌∙◌, subst, inl, inr, arith, length-append}
+use Rattle.std.proofs.Common.{◌≡◌, ℕ, zero, suc, ◌+◌, ◌^◌, ◌<◌, Bool, List, ◌∷◌, ◌++◌, length, ℤ, Some, refl, ap, inl, inr, arith, length-append}
 use Rattle.common.specs.declared.encoding.Encoding.{Encoding}
 use Rattle.dwarf.specs.Reader.{got, ReadsBack}
 use Rattle.dwarf.specs.Leb.{uleb, sleb, read_uleb, read_sleb, magnitude}
-use Rattle.dwarf.specs.Fixed.{fixed_bytes, is_width, read_fixed, twos_complement, signed_of}
-use Rattle.dwarf.specs.Tokens.{Tokens, done, code, unsigned, signed, fixed, displacement, block, short, nested, reference, raw}
-use Rattle.dwarf.specs.Codes.{Kind, operands}
+use Rattle.dwarf.specs.Fixed.{fixed_bytes, read_fixed, twos_complement}
+use Rattle.dwarf.specs.Tokens.{Tokens, displacement}
+use Rattle.dwarf.specs.Codes.{Kind}
 use Rattle.dwarf.specs.Bytes.{bytes_of, size_of}
 use Rattle.dwarf.specs.Reading.{read_counted, read_short, reading, read}
-use Rattle.common.specs.declared.fixup.DebugInfoFixup.{DebugInfoFixup}
-use Rattle.dwarf.specs.References.{references, shown, In}
+use Rattle.dwarf.specs.References.{references, shown}
 use Rattle.dwarf.specs.WellFormed.{WellFormed, at_end, at_code, at_unsigned, at_signed, at_fixed, at_displacement, at_block, at_short, at_nested, at_reference, NumbersFit, TokensReadBack}
 use Rattle.dwarf.proofs.Uleb.{uleb_reads_back, uleb_nonempty}
 use Rattle.dwarf.proofs.Sleb.{sleb_reads_back, sleb_nonempty}

@@ -1,7 +1,6 @@
 -- Tokens take as many bytes as their size says.
-use Rattle.std.proofs.Common.{◌≡◌, ℕ, suc, ◌+◌, Bool, List, [], ◌∷◌, ◌++◌, length, sym, refl, ap, ◌∙◌, arith, length-append}
+use Rattle.std.proofs.Common.{◌≡◌, ℕ, ◌+◌, Bool, length, refl, ap, ◌∙◌, arith, length-append}
 use Rattle.dwarf.specs.Leb.{uleb, sleb}
-use Rattle.dwarf.specs.Fixed.{fixed_bytes, twos_complement}
 use Rattle.dwarf.specs.Tokens.{Tokens, done, code, unsigned, signed, fixed, displacement, block, short, nested, reference, raw}
 use Rattle.dwarf.specs.Bytes.{bytes_of, size_of}
 use Rattle.dwarf.specs.References.{shown, SizesHold}

@@ -1,11 +1,9 @@
 -- The bytes at the places of references.
-use Rattle.std.proofs.Common.{◌≡◌, ℕ, ◌+◌, ◌-◌, Bool, List, [], ◌∷◌, ◌++◌, length, take, drop, sym, refl, ap, ◌∙◌, arith, take_at, drop_at}
+use Rattle.std.proofs.Common.{◌≡◌, ℕ, ◌+◌, ◌-◌, Bool, List, ◌++◌, length, take, drop, refl, arith, take_at, drop_at}
 use Rattle.dwarf.specs.Leb.{uleb, sleb}
-use Rattle.dwarf.specs.Fixed.{fixed_bytes}
 use Rattle.dwarf.specs.Tokens.{Tokens, done, code, unsigned, signed, fixed, displacement, block, short, nested, reference, raw}
 use Rattle.dwarf.specs.Bytes.{bytes_of, size_of}
-use Rattle.common.specs.declared.fixup.DebugInfoFixup.{DebugInfoFixup}
-use Rattle.dwarf.specs.References.{references, shown, Wide, In, ReferencesStand}
+use Rattle.dwarf.specs.References.{shown, ReferencesStand}
 use Rattle.dwarf.proofs.Widths.{length_fixed}
 use Rattle.dwarf.proofs.Patching.{Differ, shown_differ}
 

@@ -1,10 +1,10 @@
 -- The steps of a reading: as many as there are bytes, and one more, suffice.
-use Rattle.std.proofs.Common.{◌≡◌, ℕ, zero, suc, ◌+◌, ◌<◌, ◌≤◌, Bool, true, List, [], ◌∷◌, length, Some, None, Option, sym, refl, ap, ◌∙◌, arith}
+use Rattle.std.proofs.Common.{◌≡◌, ℕ, zero, suc, ◌<◌, Bool, List, [], ◌∷◌, length, Some, Option, refl, ap, arith}
 use Rattle.common.specs.declared.encoding.Encoding.{Encoding}
 use Rattle.dwarf.specs.Reader.{Got, and_then}
 use Rattle.dwarf.specs.Leb.{read_uleb, read_sleb}
 use Rattle.dwarf.specs.Fixed.{is_width, read_fixed, signed_of}
-use Rattle.dwarf.specs.Tokens.{Tokens, code, unsigned, signed, fixed, displacement, block, short, nested}
+use Rattle.dwarf.specs.Tokens.{Tokens, code, unsigned, signed, fixed, displacement, block, short}
 use Rattle.dwarf.specs.Codes.{Kind, unsigned_number, signed_number, number_of, branch_displacement, counted_data, short_data, nested_operations, operands}
 use Rattle.dwarf.specs.Reading.{read_counted, read_short, reading, read, StepsSuffice}
 use Rattle.dwarf.proofs.Optional.{and_then_same, cond_same}

@@ -1,5 +1,5 @@
 -- Numbers in a fixed width: their length, and that they read back, signed ones too.
-use Rattle.std.proofs.Common.{◌≡◌, ℕ, zero, suc, ◌+◌, ◌-◌, ◌*◌, ◌/◌, ◌%◌, ◌^◌, ◌<◌, ◌≤◌, Bool, true, false, ◌⊎◌, List, [], ◌∷◌, ◌++◌, reverse, length, take, drop, ℤ, pos, negsuc, sym, refl, ap, ◌∙◌, inl, inr, pow-suc, arith, length-append, take_at, drop_at}
+use Rattle.std.proofs.Common.{◌≡◌, ℕ, zero, suc, ◌+◌, ◌-◌, ◌*◌, ◌/◌, ◌^◌, ◌<◌, ◌≤◌, Bool, true, false, List, ◌++◌, length, ℤ, pos, negsuc, refl, ap, ◌∙◌, pow-suc, arith, length-append, take_at, drop_at}
 use mathlib.Core.List.{reverse-reverse}
 use lib.ListN.{length-reverse}
 use Rattle.std.proofs.lemmas.Bool.{le-leb, lt-ltb, le-ltb, cond-true, cond-false, false≢true}

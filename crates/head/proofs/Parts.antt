@@ -1,5 +1,5 @@
 -- The low bytes of a number, from those of a wider one.
-use Rattle.std.proofs.Common.{◌≡◌, ℕ, zero, suc, ◌+◌, ◌-◌, ◌/◌, ◌%◌, ◌≤◌, Bool, true, false, List, [], ◌∷◌, ◌++◌, reverse, length, take, drop, sym, refl, ap, ◌∙◌, arith, length-drop}
+use Rattle.std.proofs.Common.{◌≡◌, ℕ, zero, suc, ◌-◌, ◌/◌, ◌%◌, ◌≤◌, true, false, List, ◌∷◌, ◌++◌, reverse, length, take, drop, sym, refl, ap, ◌∙◌, arith, length-drop}
 use lib.ListN.{length-reverse}
 use Rattle.std.proofs.lemmas.List.{reverse-append, take-append-drop, drop_at, take_all}
 use Rattle.common.specs.Orders.{big_of}

@@ -1,5 +1,5 @@
 -- One turn of the loop over the groups of a signed number, of which s are done and at most 10 - s are left.
-use Rattle.std.proofs.Common.{◌≡◌, ℕ, zero, suc, ◌+◌, ◌-◌, ◌*◌, ◌/◌, ◌^◌, ◌<◌, ◌≤◌, true, false, List, [], ◌∷◌, ℤ, pos, negsuc, ap, ◌∙◌, subst, ⊎_elim, arith, w64, SFits}
+use Rattle.std.proofs.Common.{◌≡◌, ℕ, zero, suc, ◌+◌, ◌-◌, ◌*◌, ◌/◌, ◌^◌, ◌<◌, ◌≤◌, true, false, [], ◌∷◌, ℤ, pos, negsuc, ap, ◌∙◌, subst, ⊎_elim, arith, w64, SFits}
 use Rattle.std.proofs.lemmas.Bool.{cases_lt, ltb-true, ltb-false}
 use Rattle.dwarf.specs.Leb.{sgroups, shr, is_small, low_seven, magnitude}
 use Rattle.dwarf.proofs.Sleb.{sgroups_last, sgroups_more, magnitude-shr}

@@ -8,7 +8,6 @@ use Rattle.dwarf.specs.Fixed.{fixed_bytes, twos_complement}
 use Rattle.dwarf.specs.Leb.{uleb, sleb}
 use Rattle.dwarf.specs.Tokens.{Tokens, done, code, unsigned, signed, fixed, displacement, block, short, nested, reference, raw}
 use Rattle.op.specs.declared.operation.Operation.{Operation}
-use Rattle.op.specs.declared.operation.Operation.TheVariants as op
 use Rattle.rules.specs.Encode.{encode_op}
 use Rattle.rules.specs.Scope.{Scope}
 use Rattle.rules.proofs.Rows.{Rows, by_rows}

@@ -1,5 +1,5 @@
 -- A branch's places, read off the table.
-use Rattle.std.proofs.Common.{◌≡◌, ℕ, suc, ◌+◌, ◌-◌, ◌<◌, ◌≤◌, cond, ltb, List, length, get_or, ℤ, Some, None, Ok, Err, Option, Result, sym, refl, ap, ◌∙◌, subst, arith}
+use Rattle.std.proofs.Common.{◌≡◌, ℕ, ◌+◌, ◌-◌, ◌<◌, ◌≤◌, ltb, List, length, get_or, Some, None, Ok, Err, Option, Result, sym, ap, ◌∙◌, arith}
 use Rattle.std.proofs.lemmas.Bool.{cond-true, cond-false, lt-ltb, le-ltb}
 use Rattle.common.specs.declared.encoding.Encoding.{Encoding}
 use Rattle.common.specs.declared.error.Error.{Error}
@@ -12,7 +12,7 @@ use Rattle.rules.specs.Encode.{starts}
 use Rattle.rules.specs.Operands.{displaced, displacement_from}
 use Rattle.rules.specs.Results.{and_then}
 use Rattle.rules.specs.Scope.{Scope}
-use Rattle.positions.specs.Ends.{EndsAt, Own}
+use Rattle.positions.specs.Ends.{Own}
 use Rattle.positions.proofs.Starts.{starts_first, starts-length}
 
 module _ (e : Encoding) (s : Scope) (b : State) (w : Whole b) (k : ℕ) (there : k < b.sealed_count) where

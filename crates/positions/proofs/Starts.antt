@@ -1,8 +1,7 @@
 -- Where the operations of an expression begin, one after another.
-use Rattle.std.proofs.Common.{◌≡◌, ℕ, zero, suc, ◌+◌, ◌-◌, ◌<◌, ◌≤◌, List, [], ◌∷◌, length, get_or, drop, Ok, Err, Result, sym, refl, ap, ◌∙◌, subst, arith}
+use Rattle.std.proofs.Common.{◌≡◌, ℕ, zero, suc, ◌+◌, ◌<◌, ◌≤◌, List, [], ◌∷◌, length, get_or, drop, Ok, sym, refl, ap, ◌∙◌, arith}
 use Rattle.std.proofs.lemmas.List.{get_or-drop, drop-drop}
 use Rattle.common.specs.declared.encoding.Encoding.{Encoding}
-use Rattle.common.specs.declared.error.Error.{Error}
 use Rattle.op.specs.declared.operation.Operation.{Operation}
 use Rattle.book_state.specs.State.{State}
 use Rattle.rules.specs.Encode.{starts}

@@ -1,17 +1,17 @@
 -- Every branch of an accepted expression leads where it should.
 use Rattle.std.proofs.Common.{◌≡◌, ℕ, ◌+◌, Bool, true, List, [], ◌∷◌, ◌++◌, length, ℤ, pos, ◌+ℤ◌, Some, None, Option, sym, refl, ap, ◌∙◌, subst, arith}
-use Rattle.dwarf.specs.Bytes.{size_of, bytes_of}
+use Rattle.dwarf.specs.Bytes.{bytes_of}
 use Rattle.dwarf.specs.References.{shown}
 use Rattle.dwarf.specs.Tokens.{Tokens}
 use Rattle.rules.specs.Branches.{Mark, first, jump, inner, marks, Jump, Inner, firsts, jumps, inners, places, targets, signed_at, Lead, Leads, Nested}
 use Rattle.rules.specs.Claims.{BranchesLead}
-use Rattle.rules.specs.Encode.{encode, encode_tree, starts}
+use Rattle.rules.specs.Encode.{encode_tree, starts}
 use Rattle.rules.specs.Operands.{in_two_bytes}
 use Rattle.rules.specs.Sizes.{size_tree}
 use Rattle.rules.specs.Tree.{Tree, end, plain, nest}
-use Rattle.rules.proofs.Displacements.{Stands, Shown, AllShown, marks-shown}
+use Rattle.rules.proofs.Displacements.{Stands, AllShown, marks-shown}
 use Rattle.rules.proofs.Results.{first_step}
-use Rattle.rules.proofs.Targets.{Aim, Inside, Landed, tree_landed}
+use Rattle.rules.proofs.Targets.{Aim, Inside, tree_landed}
 
 module _ (big : Bool) (numbers : ℕ → ℕ) (bs : List ℕ) (q : ℕ) where
   -- the displacements and the nested runs among what the bytes show

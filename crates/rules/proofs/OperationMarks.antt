@@ -4,7 +4,7 @@ use Rattle.common.specs.declared.encoding.Encoding.{Encoding}
 use Rattle.common.specs.declared.error.Error.{Error}
 use Rattle.dwarf.specs.Tokens.{Tokens}
 use Rattle.op.specs.declared.operation.Operation.{Operation}
-use Rattle.rules.specs.Branches.{Mark, first, jump, inner, marks}
+use Rattle.rules.specs.Branches.{first, jump, marks}
 use Rattle.rules.specs.Encode.{encode_op}
 use Rattle.rules.specs.Kinds.{Kind, given, bare, branch, nesting, other, kind_of}
 use Rattle.rules.specs.Scope.{Scope}

@@ -1,5 +1,5 @@
 -- The size of an operation is the size of its tokens.
-use Rattle.std.proofs.Common.{◌≡◌, ℕ, ◌+◌, List, length, ℤ, Ok, Option, Result, refl, ap, arith}
+use Rattle.std.proofs.Common.{◌≡◌, ℕ, List, ℤ, Ok, Option, Result, refl, ap, arith}
 use Rattle.std.proofs.lemmas.Bool.{lt-ltb, le-ltb}
 use Rattle.common.specs.declared.encoding.Encoding.{Encoding}
 use Rattle.common.specs.declared.error.Error.{Error}

@@ -1,5 +1,5 @@
 -- Why an expression is refused.
-use Rattle.std.proofs.Common.{◌≡◌, ℕ, suc, ◌+◌, ◌^◌, ◌<◌, ◌≤◌, Bool, true, false, cond, ltb, leb, List, [], ◌∷◌, length, get_or, ℤ, pos, ◌-ℤ◌, Some, None, Ok, Err, Option, Result, sym, refl, ap, ◌∙◌, subst, arith}
+use Rattle.std.proofs.Common.{◌≡◌, ℕ, suc, ◌+◌, ◌^◌, ◌<◌, ◌≤◌, Bool, true, false, cond, ltb, leb, List, length, get_or, ℤ, pos, ◌-ℤ◌, Some, None, Ok, Err, Option, Result, refl, ap, subst, arith}
 use Rattle.std.proofs.lemmas.Bool.{lt-ltb}
 use Rattle.common.specs.Errors.{number_of}
 use Rattle.common.specs.Formats.{word_size}
@@ -7,14 +7,7 @@ use Rattle.common.specs.declared.address.Address.{Address as AnAddress}
 use Rattle.common.specs.declared.address.Address.TheVariants as address
 use Rattle.common.specs.declared.encoding.Encoding.{Encoding}
 use Rattle.common.specs.declared.error.Error.{Error}
-use Rattle.common.specs.declared.error.Error.TheVariants.{
-  ValueTooLarge,
-  UnsupportedWordSize,
-  InvalidAddress,
-  InvalidReference,
-  UnsupportedExpressionForwardReference,
-  UnsupportedCfiExpressionReference,
-}
+use Rattle.common.specs.declared.error.Error.TheVariants.{ValueTooLarge, UnsupportedWordSize}
 use Rattle.dwarf.specs.Fixed.{is_width}
 use Rattle.dwarf.specs.Leb.{uleb}
 use Rattle.dwarf.specs.Bytes.{joined}
@@ -54,9 +47,9 @@ use Rattle.op.specs.declared.operation.Operation.TheVariants.{
 }
 use Rattle.rules.specs.Results.{and_then, plus}
 use Rattle.rules.specs.Claims.{RefusalsListed}
-use Rattle.rules.specs.Encode.{encode_op, starts, encode_tree, encode}
+use Rattle.rules.specs.Encode.{encode_op, starts, encode_tree}
 use Rattle.rules.specs.Kinds.{branch, kind_of}
-use Rattle.rules.specs.Operands.{by_version, in_width, address_in, short_data_of, referred, in_two_bytes, target_at, displacement_from, after_branch, displaced}
+use Rattle.rules.specs.Operands.{by_version, in_width, address_in, short_data_of, referred, in_two_bytes, after_branch, displaced}
 use Rattle.rules.specs.Scope.{Scope, in_frame, in_unit, from_start, base_of, base_or_generic}
 use Rattle.rules.specs.Sealed.{count_of, SealedKind, Sealed}
 use Rattle.rules.specs.Sizes.{size_op, size_tree, nested_size, extent_op, extent_nested, pointer_size}

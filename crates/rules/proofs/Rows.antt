@@ -47,7 +47,7 @@ use Rattle.op.specs.declared.operation.Operation.TheVariants.{
 }
 use Rattle.rules.specs.Results.{and_then}
 use Rattle.rules.specs.Encode.{encode_op}
-use Rattle.rules.specs.Operands.{by_version, in_width, address_in, short_data_of, referred}
+use Rattle.rules.specs.Operands.{by_version, in_width, short_data_of, referred}
 use Rattle.rules.specs.Scope.{Scope, in_frame, in_unit, base_of, base_or_generic}
 use Rattle.rules.specs.Sizes.{pointer_size}
 use Rattle.rules.proofs.Results.{not_refused, value_is, first_step, last_step}

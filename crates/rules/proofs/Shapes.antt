@@ -1,5 +1,5 @@
 -- The two shapes of an operation, and the trees that are made of them.
-use Rattle.std.proofs.Common.{◌≡◌, ℕ, zero, suc, ◌≤◌, List, [], ◌∷◌, length, Option, refl, ap}
+use Rattle.std.proofs.Common.{◌≡◌, ℕ, suc, List, [], ◌∷◌, length, refl, ap}
 use Rattle.op.specs.declared.operation.Operation.{Operation}
 use Rattle.op.specs.declared.operation.Operation.TheVariants.{
   Raw,
@@ -33,7 +33,7 @@ use Rattle.op.specs.declared.operation.Operation.TheVariants.{
 }
 use Rattle.rules.specs.Kinds.{Kind, given, bare, branch, nesting as nests, other, kind_of}
 use Rattle.rules.specs.Sealed.{count_of, SealedKind, Sealed}
-use Rattle.rules.specs.Tree.{Store, bytes_at, Shape, single, nesting, shape, Tree, end, plain, nest, grow, rows}
+use Rattle.rules.specs.Tree.{Store, bytes_at, Shape, single, nesting, shape, Tree, grow, rows}
 
 -- a kind other than an entry value
 abbrev pub Flat : Kind → Type 0

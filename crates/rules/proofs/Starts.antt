@@ -1,15 +1,15 @@
 -- Where operations begin, by the bytes of those before them.
-use Rattle.std.proofs.Common.{◌≡◌, ℕ, suc, ◌+◌, List, [], ◌∷◌, ◌++◌, length, get_or, Ok, Err, Result, sym, refl, ap, ◌∙◌, ap₂, arith}
+use Rattle.std.proofs.Common.{◌≡◌, ℕ, suc, ◌+◌, List, [], ◌∷◌, ◌++◌, length, get_or, Ok, Err, Result, sym, refl, ap, ◌∙◌, arith}
 use Rattle.common.specs.declared.encoding.Encoding.{Encoding}
 use Rattle.common.specs.declared.error.Error.{Error}
 use Rattle.op.specs.declared.operation.Operation.{Operation}
-use Rattle.rules.specs.Results.{and_then, plus, amount}
+use Rattle.rules.specs.Results.{plus, amount}
 use Rattle.rules.specs.Encode.{starts}
 use Rattle.rules.specs.Passes.{extent}
 use Rattle.rules.specs.Scope.{Scope}
 use Rattle.rules.specs.Sizes.{size_op, nested_size, size_tree, extent_op, extent_nested}
 use Rattle.rules.specs.Tree.{Store, Shape, single, nesting, shape, Tree, end, plain, nest, grow, rows}
-use Rattle.rules.proofs.Results.{not_refused, value_is, first_step, last_step}
+use Rattle.rules.proofs.Results.{not_refused, value_is}
 
 -- a sum that is not refused is of two numbers that are not
 pub plus-parts : (x y : Result ℕ Error) (n : ℕ) → plus x y ≡ Ok n → (x ≡ Ok (amount x)) × (y ≡ Ok (amount y)) × (n ≡ amount x + amount y)

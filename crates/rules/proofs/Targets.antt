@@ -10,16 +10,16 @@ use Rattle.dwarf.specs.Bytes.{size_of, joined}
 use Rattle.dwarf.specs.Tokens.{Tokens, done, code, nested}
 use Rattle.op.specs.declared.operation.Operation.{Operation}
 use Rattle.rules.specs.Results.{and_then, amount}
-use Rattle.rules.specs.Branches.{Mark, first, jump, inner, marks, Jump, Inner, firsts, jumps, inners, places, named, targets}
+use Rattle.rules.specs.Branches.{Mark, first, marks, Jump, Inner, firsts, jumps, inners, places, named, targets}
 use Rattle.rules.specs.Encode.{encode_op, starts, encode_tree}
 use Rattle.rules.specs.Kinds.{Kind, given, bare, branch, nesting, other, kind_of}
-use Rattle.rules.specs.Operands.{by_version, in_two_bytes, target_at, displacement_from, after_branch, displaced}
+use Rattle.rules.specs.Operands.{by_version, in_two_bytes, displacement_from, after_branch, displaced}
 use Rattle.rules.specs.Scope.{Scope}
-use Rattle.rules.specs.Sizes.{size_op, size_tree, nested_size, extent_op, extent_nested}
+use Rattle.rules.specs.Sizes.{size_tree, nested_size, extent_op, extent_nested}
 use Rattle.rules.specs.Tree.{Tree, end, plain, nest}
 use Rattle.dwarf.proofs.Joining.{size_joined}
 use Rattle.rules.proofs.Marks.{marks-joined}
-use Rattle.rules.proofs.OperationMarks.{Once, Marked, operation_marks}
+use Rattle.rules.proofs.OperationMarks.{Marked, operation_marks}
 use Rattle.rules.proofs.OperationSizes.{operation_size}
 use Rattle.rules.proofs.Results.{not_refused, value_is, first_step, last_step}
 use Rattle.rules.proofs.Sizes.{tree_size}

@@ -1,5 +1,5 @@
 -- Properties of an expression's tokens that come from those of its operations and nested expressions.
-use Rattle.std.proofs.Common.{◌≡◌, ℕ, ◌+◌, List, ℤ, Ok, Option, Result, refl}
+use Rattle.std.proofs.Common.{◌≡◌, ℕ, ◌+◌, List, ℤ, Ok, Option, Result}
 use Rattle.common.specs.declared.encoding.Encoding.{Encoding}
 use Rattle.common.specs.declared.error.Error.{Error}
 use Rattle.dwarf.specs.Bytes.{joined}

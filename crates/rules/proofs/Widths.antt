@@ -12,7 +12,7 @@ use Rattle.rules.specs.Claims.{ReferencesWide}
 use Rattle.rules.specs.Scope.{Scope}
 use Rattle.rules.specs.Sizes.{pointer_size}
 use Rattle.rules.proofs.Rows.{Rows, by_rows}
-use Rattle.rules.proofs.Trees.{Grows, by_growth_whole}
+use Rattle.rules.proofs.Trees.{by_growth_whole}
 
 word_positive : (f : Format) → 0 < word_size f
 word_positive Dwarf32 = omega arith

@@ -1,5 +1,5 @@
 -- Worked examples, evaluated on the definitions.
-use Rattle.std.specs.Prelude.{◌≡◌, ℕ, true, false, cond, List, [], ◌∷◌, length, replicate, pos, negsuc, Some, None, Ok, Err, Option, Result, ◌==◌}
+use Rattle.std.specs.Prelude.{◌≡◌, ℕ, true, false, cond, List, [], ◌∷◌, length, replicate, pos, negsuc, Some, None, Ok, Err, Result, ◌==◌}
 use Rattle.common.specs.declared.address.Address.TheVariants as address
 use Rattle.common.specs.declared.encoding.Encoding.{Encoding}
 use Rattle.common.specs.declared.encoding.Register.{Register as RegisterNumber}
@@ -54,7 +54,7 @@ use Rattle.rules.specs.Encode.{encode}
 use Rattle.rules.specs.Operands.{displacement_from}
 use Rattle.rules.specs.Scope.{Scope, in_frame, in_unit}
 use Rattle.rules.specs.Sizes.{size_tree}
-use Rattle.rules.specs.Tree.{Expression, Store, Tree, end, plain, expression_tree}
+use Rattle.rules.specs.Tree.{Store, Tree, end, plain, expression_tree}
 
 -- a version, an address size, in 32-bit DWARF
 abbrev pub dwarf32 : ℕ → ℕ → Encoding

@@ -1,5 +1,5 @@
 -- What holds of every expression that a book has sealed.
-use Rattle.std.specs.Prelude.{ℕ, suc, ◌≤◌, Some, None, Option}
+use Rattle.std.specs.Prelude.{ℕ, suc, ◌≤◌, Some, None}
 use Rattle.rules.specs.Kinds.{Kind, given, bare, branch, nesting, other, kind_of}
 use Rattle.rules.specs.Tree.{Tree, end, plain, nest}
 

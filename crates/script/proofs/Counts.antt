@@ -1,6 +1,6 @@
 -- Words, counted.
-use Rattle.std.proofs.Common.{◌≡◌, ℕ, List, [], ◌∷◌, Some, None, Option, sym, refl, ap, ◌∙◌, arith}
-use Rattle.script.specs.Operands.{alone, single, double}
+use Rattle.std.proofs.Common.{◌≡◌, ℕ, List, [], ◌∷◌, Some, Option, ap, arith}
+use Rattle.script.specs.Operands.{single, double}
 
 -- just one word is there
 pub single_at : {A : Type 0} (f : List ℕ → Option A) (ws : List (List ℕ)) (w : List ℕ) → Some w ≡ single Some ws → f w ≡ single f ws

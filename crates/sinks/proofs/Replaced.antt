@@ -1,8 +1,8 @@
 -- A range of a list replaced.
-use Rattle.std.proofs.Common.{◌≡◌, ℕ, ◌+◌, ◌-◌, ◌<◌, ◌≤◌, min, Bool, List, [], ◌∷◌, ◌++◌, length, get_or, take, drop, set, sym, refl, ap, ◌∙◌, ⊎_elim, append_assoc, arith}
-use Rattle.std.proofs.lemmas.Bool.{cond-true, le-leb, cases_lt}
+use Rattle.std.proofs.Common.{◌≡◌, ℕ, ◌+◌, ◌-◌, ◌<◌, ◌≤◌, Bool, List, [], ◌∷◌, ◌++◌, length, get_or, take, drop, set, sym, ap, ◌∙◌, ⊎_elim, append_assoc, arith}
+use Rattle.std.proofs.lemmas.Bool.{cases_lt}
 use borrow.Rule.Slice.PartMut.{put_mid}
-use Rattle.std.proofs.lemmas.List.{length-take-le, take_more, drop-set, set-append_right, length-drop, length-append, drop_all, take_at, append-nil, drop_more, take-append-drop, take_all, drop-drop, drop_at, take-take, drop-append-le, get_or-drop, length-take}
+use Rattle.std.proofs.lemmas.List.{length-take-le, take_more, set-append_right, length-drop, length-append, take_at, drop_more, take-append-drop, take_all, drop-drop, drop_at, take-take, drop-append-le, get_or-drop}
 use Rattle.writer.specs.Meaning.{replaced, Sink}
 
 -- one more byte laid over a table

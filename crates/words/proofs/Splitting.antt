@@ -1,11 +1,9 @@
 -- Texts cut into lines and words.
-use Rattle.std.proofs.Common.{◌≡◌, ℕ, suc, ◌+◌, ◌-◌, ◌<◌, ◌≤◌, min, Bool, true, false, cond, not, List, [], ◌∷◌, ◌++◌, length, take, drop, filter, sym, refl, ap, ◌∙◌, subst, ⊎_elim, add-one, one-add, arith, length-drop}
+use Rattle.std.proofs.Common.{◌≡◌, ℕ, suc, ◌+◌, ◌-◌, ◌<◌, min, Bool, true, false, not, List, [], ◌∷◌, length, take, drop, filter, sym, refl, ap, ◌∙◌, subst, ⊎_elim, add-one, one-add, arith}
 use Rattle.std.specs.List.{prefix_len}
 use Rattle.std.proofs.lemmas.List.{nil_from_length, drop_all, take_rest}
-use Rattle.std.proofs.lemmas.List.Sums.{prefix_len-le-length}
 use Rattle.std.proofs.lemmas.Bool.{cond-true, cond-false, cases_Bool, cases_lt, not_from_true, not_from_false}
-use Rattle.words.specs.declared.text.Class.{Class}
-use Rattle.words.specs.declared.text.Class.TheVariants.{LineFeed, Hash, Blank, Printed}
+use Rattle.words.specs.declared.text.Class.TheVariants.{Blank, Printed}
 use Rattle.words.specs.Text.{is_in, reach, pieces, glued, lines_of, words_in, filled, blank}
 
 -- what lies past a place, which may be past the end

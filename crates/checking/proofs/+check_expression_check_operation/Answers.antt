@@ -1,4 +1,4 @@
-use Rattle.std.proofs.Common.{◌≡◌, ℕ, ◌+◌, ◌*◌, ◌<◌, ◌≤◌, List, ◌∷◌, length, get_or, drop, Ok, Err, sym, refl, ap, ◌∙◌, subst, arith, rules}
+use Rattle.std.proofs.Common.{◌≡◌, ℕ, ◌+◌, ◌<◌, length, get_or, drop, Ok, Err, sym, ap, ◌∙◌, subst, arith, rules}
 use Rattle.std.proofs.lemmas.Result.{err_from_is_err_and}
 use Rattle.book_state.specs.declared.shape.Shape.TheVariants.{Nesting}
 use Rattle.book_state.specs.Operations.{shape}
@@ -13,7 +13,7 @@ use Rattle.book_tree.proofs.Sums.{plus_start}
 use Rattle.book_tree.proofs.Trees.{tree_is, depth_at, operations_more, operations_all, length_operations}
 use Rattle.positions.proofs.Filling.{filled-own, filled_inner}
 use Rattle.positions.proofs.Starts.{starts_first, next_start}
-use Rattle.checking.specs.Counts.{counted, encode_at}
+use Rattle.checking.specs.Counts.{counted}
 use Rattle.checking.proofs.Encoded.{rows_encode, count_more, count_stop, count_all}
 use Rattle.checking.proofs.Counting.{made_le, after_three, branching_count, plain-count}
 use Rattle.checking.proofs.+check_expression_check_operation.Goals as goal

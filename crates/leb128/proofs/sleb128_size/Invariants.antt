@@ -1,4 +1,4 @@
-use Rattle.std.proofs.Common.{◌≡◌, ◌+◌, ◌-◌, ◌<◌, ◌≤◌, length, ℤ, nat_abs}
+use Rattle.std.proofs.Common.{◌≡◌, ◌+◌, ◌-◌, ◌<◌, ◌≤◌, length}
 use Rattle.dwarf.specs.Leb.{sgroups, magnitude}
 use Rattle.leb128.proofs.SignedGroups.{room}
 use Rattle.leb128.proofs.sleb128_size.Given as goal

@@ -1,4 +1,4 @@
-use Rattle.std.proofs.Common.{◌≡◌, ◌<◌, length, ap, arith}
+use Rattle.std.proofs.Common.{◌<◌, length, ap, arith}
 use Rattle.dwarf.specs.Leb.{uleb}
 use Rattle.leb128.proofs.Groups.{last_at, not_last, room_falls, more_at}
 use Rattle.leb128.proofs.uleb128_size.Goals as goal

@@ -1,19 +1,18 @@
-use Rattle.std.proofs.Common.{◌≡◌, ℕ, ◌+◌, ◌*◌, ◌<◌, ◌≤◌, List, ◌∷◌, length, drop, set, Ok, Err, sym, refl, ap, ◌∙◌, subst, arith, rules}
+use Rattle.std.proofs.Common.{◌≡◌, ℕ, ◌+◌, ◌<◌, ◌≤◌, List, length, drop, set, sym, ap, ◌∙◌, arith, rules}
 use Rattle.std.proofs.lemmas.Result.{err_from_is_err_and}
-use Rattle.dwarf.specs.Leb.{uleb}
 use Rattle.book_state.specs.Operations.{shape}
 use Rattle.book_state.specs.State.{op_at, expression_at, operations_of, weight_of, weight_by}
 use Rattle.book_tables.specs.View.{view}
 use Rattle.rules.specs.Encode.{starts}
 use Rattle.rules.specs.Sizes.{size_tree}
 use Rattle.unit.specs.Offsets.{scope_of}
-use Rattle.book_tree.specs.Store.{size_in, tree_in}
-use Rattle.book_tree.proofs.Shapes.{inside_book, within, within_4096}
+use Rattle.book_tree.specs.Store.{tree_in}
+use Rattle.book_tree.proofs.Shapes.{inside_book, within_4096}
 use Rattle.book_tree.proofs.Trees.{tree_is, depth_at, operations_more, operations_all}
 use Rattle.book_tree.proofs.Sums.{rows_size, plus_start, size_more, size_stop, size_all}
 use Rattle.positions.specs.Ends.{EndsAt, FilledBy}
 use Rattle.positions.proofs.Starts.{starts_next, next_begins}
-use Rattle.positions.proofs.Filling.{keeps_then, written, written_keeps, filled_keeps, filled_is, more, nested-filled}
+use Rattle.positions.proofs.Filling.{keeps_then, written, written_keeps, filled_keeps, filled_is, more}
 use Rattle.positions.proofs.+measure_expression_measure_operation.Goals as goal
 
 pub measure_expression-loop-i-init : goal.measure_expression-loop-i-init

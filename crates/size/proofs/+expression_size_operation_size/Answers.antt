@@ -1,14 +1,10 @@
-use Rattle.std.proofs.Common.{◌≡◌, ℕ, ◌+◌, ◌*◌, ◌<◌, ◌≤◌, ◌∷◌, length, drop, Ok, Err, sym, refl, ap, ◌∙◌, arith, rules}
+use Rattle.std.proofs.Common.{◌≡◌, ◌+◌, drop, sym, ap, ◌∙◌, arith, rules}
 use Rattle.std.proofs.lemmas.Result.{err_from_is_err_and}
-use Rattle.dwarf.specs.Leb.{uleb}
-use Rattle.op.specs.declared.operation.Operation.TheVariants.{Raw, ConstantType, ImplicitValue}
 use Rattle.book_state.specs.Operations.{shape}
 use Rattle.book_state.specs.State.{op_at, expression_at, operations_of, weight_of, weight_by}
 use Rattle.book_tables.specs.View.{view}
-use Rattle.rules.specs.Scope.{base_of}
 use Rattle.rules.specs.Sizes.{size_tree}
 use Rattle.unit.specs.Offsets.{scope_of}
-use Rattle.book_tree.specs.Store.{size_in}
 use Rattle.book_tree.proofs.Shapes.{inside_book, data_size}
 use Rattle.book_tree.proofs.Trees.{tree_is, depth_at, operations_more, operations_all}
 use Rattle.book_tree.proofs.Sums.{size_more, size_stop, size_all, raw_size, constant_type_size, implicit_value_size}

@@ -1,4 +1,4 @@
-use Rattle.std.proofs.Common.{◌≡◌, ◌+◌, ◌-◌, ◌<◌, ◌≤◌, ◌++◌, length, take}
+use Rattle.std.proofs.Common.{◌≡◌, ◌-◌, ◌<◌, ◌≤◌, ◌++◌, length, take}
 use Rattle.dwarf.specs.Leb.{sgroups, magnitude}
 use Rattle.leb128.proofs.SignedGroups.{room}
 use Rattle.leb128.proofs.Leb128.signed.Given as goal

@@ -1,4 +1,4 @@
-use Rattle.std.proofs.Common.{◌≡◌, ◌+◌, ◌-◌, ◌<◌, ◌≤◌, ◌++◌, length, take}
+use Rattle.std.proofs.Common.{◌≡◌, ◌-◌, ◌<◌, ◌≤◌, ◌++◌, length, take}
 use Rattle.dwarf.specs.Leb.{groups}
 use Rattle.leb128.proofs.Groups.{room}
 use Rattle.leb128.proofs.Leb128.unsigned.Given as goal

@@ -1,4 +1,4 @@
-use Rattle.std.proofs.Common.{◌≡◌, ◌+◌, ◌-◌, ◌≤◌, min, false, length, take, refl, ◌∙◌, arith}
+use Rattle.std.proofs.Common.{◌≡◌, ◌+◌, ◌-◌, ◌≤◌, min, false, length, refl, ◌∙◌, arith}
 use Rattle.sinks.proofs.Replaced.{mid_is, mid_length}
 use Rattle.sinks.proofs.Lending.{appends}
 use Rattle.own_sink.proofs.ArraySinkWriter.write.Goals as goal

@@ -1,11 +1,11 @@
-use Rattle.std.proofs.Common.{◌≡◌, ℕ, ◌+◌, ◌-◌, ◌<◌, ◌≤◌, get_or, sym, refl, ap, ◌∙◌, subst, arith, rules}
+use Rattle.std.proofs.Common.{◌≡◌, ℕ, ◌+◌, ◌-◌, ◌<◌, ◌≤◌, get_or, sym, ap, ◌∙◌, subst, arith}
 use Rattle.book_state.specs.State.{expression_at}
 use Rattle.book_state.specs.Whole.{heaviest}
 use Rattle.book_tables.specs.View.{view}
 use Rattle.book_tree.specs.Store.{tree_in}
 use Rattle.rules.specs.Encode.{starts}
 use Rattle.rules.specs.Operands.{displacement_from}
-use Rattle.positions.proofs.Reading.{end_read, read_open, read_past, read_target, first_read, target_read}
+use Rattle.positions.proofs.Reading.{end_read, read_past, read_target, first_read, target_read}
 use Rattle.positions.proofs.branch.displacement.Goals as goal
 
 pub returns-then-target-expression : goal.returns-then-target-expression

@@ -1,4 +1,4 @@
-use Rattle.std.proofs.Common.{arith, rules}
+use Rattle.std.proofs.Common.{arith}
 use Rattle.sinks.proofs.Spread.{byte_put}
 use Rattle.sinks.proofs.words.put_byte.Goals as goal
 

@@ -1,4 +1,4 @@
-use Rattle.std.proofs.Common.{is_some, sym, ap, ◌∙◌, arith}
+use Rattle.std.proofs.Common.{is_some, sym, ap, ◌∙◌}
 use Rattle.words.proofs.Pairs.{pairs_none, pairs_more, pairs_all}
 use Rattle.words.proofs.hex.are_pairs.Goals as goal
 

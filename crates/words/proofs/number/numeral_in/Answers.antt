@@ -1,4 +1,4 @@
-use Rattle.std.proofs.Common.{◌≡◌, ◌^◌, ◌<◌, length, sym, ◌∙◌, arith, false-eqb}
+use Rattle.std.proofs.Common.{◌^◌, ◌<◌, length, sym, ◌∙◌, arith, false-eqb}
 use Rattle.words.proofs.Numerals.{after_more, after_none, after_all, after_start}
 use Rattle.words.proofs.number.numeral_in.Goals as goal
 

@@ -1,6 +1,5 @@
-use Rattle.std.proofs.Common.{◌≡◌, true, false, sym, refl, ap, ◌∙◌}
+use Rattle.std.proofs.Common.{◌≡◌, true, false, sym, ◌∙◌}
 use native.Mathlib.Nat.{div-div-eq-div-mul}
-use Rattle.dwarf.specs.Fixed.{fixed_bytes}
 use Rattle.writer.proofs.fixed.bytes_u128.Goals as goal
 
 pub returns-then-is_big_endian : goal.returns-then-is_big_endian

@@ -1,4 +1,4 @@
-use Rattle.std.proofs.Common.{◌≡◌, ℕ, ◌+◌, List, ◌++◌, length, take, ap, ◌∙◌}
+use Rattle.std.proofs.Common.{ℕ, ◌+◌, List, ◌++◌, length, take, ap, ◌∙◌}
 use Rattle.common.specs.Orders.{big_of}
 use Rattle.head.proofs.Parts.{cut_little, cut_big}
 use Rattle.dwarf.proofs.Widths.{length_fixed}

@@ -1,4 +1,4 @@
-use Rattle.std.proofs.Common.{◌≡◌, ◌+◌, ◌≤◌, min, true, length, arith}
+use Rattle.std.proofs.Common.{◌+◌, ◌≤◌, min, true, length, arith}
 use Rattle.sinks.specs.Words.{spread}
 use Rattle.sinks.proofs.Spread.{length-spread}
 use Rattle.sinks.proofs.Lending.{appends}

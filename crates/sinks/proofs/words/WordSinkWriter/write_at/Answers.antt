@@ -1,4 +1,4 @@
-use Rattle.std.proofs.Common.{◌≡◌, ◌+◌, ◌≤◌, min, true, length, take, arith}
+use Rattle.std.proofs.Common.{◌+◌, ◌≤◌, min, true, length, take, arith}
 use Rattle.sinks.specs.Words.{spread}
 use Rattle.sinks.proofs.Spread.{length-spread}
 use Rattle.sinks.proofs.Lending.{patches}
