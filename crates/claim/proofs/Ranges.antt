@@ -1,6 +1,6 @@
 -- Expressions made of operations whose operands are in range.
 use Rattle.std.proofs.Common.{ℕ, zero, suc, List, [], ◌∷◌, drop}
-use Rattle.std.specs.List.{AllByRecursion as All}
+use Rattle.std.specs.List.{AllByRecursion}
 use Rattle.std.proofs.ByRecursion.{All-take, All-drop}
 use Rattle.op.specs.declared.operation.Operation.{Operation}
 use Rattle.rules.specs.Tree.{Store, Tree, Shape, grow, rows, expression_at, tree_of}
@@ -12,7 +12,7 @@ grow-fits : (inner : ℕ → Tree) → ((n : ℕ) → Fits (inner n)) → (t : T
 grow-fits inner h t k (is_single o bs flat) f = (f, k)
 grow-fits inner h t k (is_nesting n) f = (h n, k)
 
-rows_fit : (inner : ℕ → Tree) → ((n : ℕ) → Fits (inner n)) → (b : Store) (os : List Operation) → All FitsOperation os → Fits (rows inner b os)
+rows_fit : (inner : ℕ → Tree) → ((n : ℕ) → Fits (inner n)) → (b : Store) (os : List Operation) → AllByRecursion FitsOperation os → Fits (rows inner b os)
 rows_fit inner h b [] a = tt
 rows_fit inner h b (o ∷ os) a = grow-fits inner h (rows inner b os) (rows_fit inner h b os a.1) (shaped b o) a.0
 

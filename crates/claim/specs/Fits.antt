@@ -1,6 +1,6 @@
 -- The range of an operation's operands: every operation that a program holds has them in range.
 use Rattle.std.specs.Prelude.{ℕ, ◌^◌, ◌<◌}
-use Rattle.std.specs.List.{AllByRecursion as All}
+use Rattle.std.specs.List.{AllByRecursion}
 use Rattle.op.specs.declared.operation.Operation.{Operation}
 use Rattle.op.specs.declared.operation.Operation.TheVariants.{
   Raw,
@@ -74,4 +74,4 @@ Fits (nest y t) = Fits y × Fits t
 
 -- the expressions of tables whose operations have their operands in range
 abbrev pub TreesFit : Type 0
-TreesFit = (levels : ℕ) (b : Store) (n : ℕ) → All FitsOperation b.operations → Fits (tree_of levels b n)
+TreesFit = (levels : ℕ) (b : Store) (n : ℕ) → AllByRecursion FitsOperation b.operations → Fits (tree_of levels b n)

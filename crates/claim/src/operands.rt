@@ -1,6 +1,6 @@
 //! The operands of the operations that a program holds.
 
-ghost use Rattle.std.specs.List.{AllByRecursion as All};
+ghost use Rattle.std.specs.List.{AllByRecursion};
 ghost use Rattle.claim.specs.Fits.{FitsOperation};
 
 use op::operation::Operation;
@@ -12,7 +12,7 @@ pub fn operands_fit(operation: Operation)
 
 /// And so has every operation of a table.
 pub fn all_operands_fit(operations: &[Operation])
-    ensures { All FitsOperation operations.now }
+    ensures { AllByRecursion FitsOperation operations.now }
 {
     for i in 0..operations.len() {
         operands_fit(operations[i]);

@@ -1,6 +1,6 @@
 -- What a reader of bytes answers.
 use Rattle.std.specs.Prelude.{◌≡◌, ℕ, ◌+◌, ◌<◌, ◌≤◌, cond, List, ◌++◌, length, take, drop, Some, None, Option, nat_le}
-use Rattle.std.specs.List.{AllByRecursion as All}
+use Rattle.std.specs.List.{AllByRecursion}
 
 -- what was read, and the bytes after it
 pub record Got (A : Type 0) : Type 0 where
@@ -22,7 +22,7 @@ read_data count bytes = cond (nat_le count (length bytes)) (got (take count byte
 
 -- the numbers are bytes
 abbrev pub AllBytes : List ℕ → Type 0
-AllBytes numbers = All (λ b. b < 256) numbers
+AllBytes numbers = AllByRecursion (λ b. b < 256) numbers
 
 -- the bytes read as the value, whatever bytes follow them
 unfoldable pub ReadsBack : {A : Type 0} → (List ℕ → Option (Got A)) → List ℕ → A → Type 0

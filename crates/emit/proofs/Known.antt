@@ -1,5 +1,5 @@
 -- What is known of an operation that was checked.
-use Rattle.std.proofs.Common.{◌≡◌, ℕ, ◌+◌, ◌≤◌, Bool, true, List, length, ℤ, is_ok as std_is_ok, Ok, Err, Result, sym, refl, ap, ◌∙◌, arith}
+use Rattle.std.proofs.Common.{◌≡◌, ℕ, true, List, length, ℤ, is_ok as std_is_ok, Ok, Err, Result, sym, refl, ap, ◌∙◌, arith}
 use Rattle.common.specs.declared.encoding.Encoding.{Encoding}
 use Rattle.common.specs.declared.error.Error.{Error}
 use Rattle.dwarf.specs.Bytes.{bytes_of, size_of}

@@ -1,12 +1,11 @@
 -- Each step of the writing leaves what the sink and the rows come to as it was.
-use Rattle.std.proofs.Common.{◌≡◌, ℕ, zero, suc, ◌+◌, ◌-◌, ◌<◌, ◌≤◌, ◌≢◌, List, ◌∷◌, ◌++◌, length, get_or, set, sym, refl, ap, ◌∙◌, subst, arith}
+use Rattle.std.proofs.Common.{◌≡◌, ℕ, zero, suc, ◌+◌, ◌-◌, ◌<◌, ◌≤◌, ◌≢◌, List, ◌∷◌, ◌++◌, length, get_or, set, sym, refl, ap, ◌∙◌, arith}
 use Rattle.std.proofs.lemmas.List.{get_or-set_same, get_or-set_other}
 use Rattle.common.specs.declared.encoding.Encoding.{Encoding}
 use Rattle.common.specs.declared.fixup.DebugInfoFixup.{DebugInfoFixup}
 use Rattle.dwarf.specs.Bytes.{bytes_of, joined, size_of}
 use Rattle.dwarf.specs.Leb.{uleb}
 use Rattle.dwarf.specs.References.{references}
-use Rattle.dwarf.specs.Tokens.{Tokens, done, code, nested}
 use Rattle.op.specs.declared.operation.Operation.{Operation}
 use Rattle.book_state.specs.State.{State, op_at, expression_at}
 use Rattle.book_state.specs.Whole.{Whole}

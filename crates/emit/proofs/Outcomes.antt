@@ -1,15 +1,15 @@
 -- What writing an expression comes to, by its size and the count of its references.
-use Rattle.std.proofs.Common.{◌≡◌, ℕ, ◌+◌, ◌<◌, ◌≤◌, Bool, true, false, cond, ltb, leb, List, [], ◌∷◌, ◌++◌, length, Some, None, Ok, Err, Option, Result, sym, refl, ap, ◌∙◌, subst, arith, length-append}
+use Rattle.std.proofs.Common.{◌≡◌, ℕ, ◌+◌, ◌<◌, ◌≤◌, Bool, cond, ltb, leb, List, length, Some, None, Ok, Err, Result, sym, refl, ap, ◌∙◌, subst, arith, length-append}
 use Rattle.std.proofs.lemmas.Bool.{lt-ltb, le-ltb, le-leb, lt-leb}
 use Rattle.common.specs.declared.encoding.Encoding.{Encoding}
 use Rattle.common.specs.declared.error.Error.{Error}
 use Rattle.common.specs.declared.error.Error.TheVariants.{NoRoom, TooManyReferences}
 use Rattle.common.specs.declared.fixup.DebugInfoFixup.{DebugInfoFixup}
-use Rattle.dwarf.specs.Bytes.{bytes_of, joined, size_of}
+use Rattle.dwarf.specs.Bytes.{joined, size_of}
 use Rattle.dwarf.specs.Leb.{uleb}
 use Rattle.dwarf.specs.References.{references}
 use Rattle.dwarf.specs.Tokens.{Tokens, done, code, unsigned, signed, fixed, displacement, block, short, nested, reference, raw}
-use Rattle.book_state.specs.State.{State, expression_at}
+use Rattle.book_state.specs.State.{State}
 use Rattle.book_state.specs.Whole.{Whole}
 use Rattle.book_tree.specs.Store.{tree_in}
 use Rattle.checking.specs.Counts.{tally, counted}
@@ -20,13 +20,12 @@ use Rattle.rules.specs.Passes.{check_tree, tokens_tree}
 use Rattle.rules.specs.Results.{and_then}
 use Rattle.rules.specs.Scope.{Scope}
 use Rattle.rules.specs.Sizes.{size_tree}
-use Rattle.rules.specs.Tree.{Tree}
 use Rattle.rules.proofs.Passes.{two_passes}
 use Rattle.rules.proofs.Results.{not_refused, value_is}
 use Rattle.rules.proofs.Sizes.{tree_size}
 use Rattle.writer.specs.Meaning.{Sink, fits}
-use Rattle.emit.specs.Walk.{starts_of, left, come, begin, Ready, Walking}
-use Rattle.emit.specs.Written.{allowed, written, grown_by, set_down_by, Wrote}
+use Rattle.emit.specs.Walk.{left, come, begin, Walking}
+use Rattle.emit.specs.Written.{allowed, written, Wrote}
 use Rattle.emit.proofs.Steps.{left_whole, check_whole}
 
 -- as many references as there are tokens for them

@@ -1,5 +1,5 @@
 -- Operations that nest nothing.
-use Rattle.std.proofs.Common.{◌≡◌, ℕ, ◌⊎◌, List, [], ℤ, Ok, Err, Option, Result, sym, refl, ap, ◌∙◌, ⊎_elim}
+use Rattle.std.proofs.Common.{◌≡◌, ℕ, ◌⊎◌, List, ℤ, Ok, Option, Result, sym, refl, ap, ◌∙◌, ⊎_elim}
 use Rattle.common.specs.declared.encoding.Encoding.{Encoding}
 use Rattle.common.specs.declared.error.Error.{Error}
 use Rattle.dwarf.specs.Tokens.{done, code, displacement}

@@ -1,9 +1,9 @@
 -- What is left, one operation on.
-use Rattle.std.proofs.Common.{◌≡◌, ℕ, suc, ◌+◌, ◌-◌, ◌<◌, ◌≤◌, List, [], ◌∷◌, length, get_or, drop, Ok, Err, Result, sym, refl, ap, ◌∙◌, subst, arith}
+use Rattle.std.proofs.Common.{◌≡◌, ℕ, ◌+◌, ◌<◌, ◌≤◌, List, length, get_or, drop, Ok, Err, Result, sym, refl, ap, ◌∙◌, arith}
 use Rattle.common.specs.declared.encoding.Encoding.{Encoding}
 use Rattle.common.specs.declared.error.Error.{Error}
 use Rattle.dwarf.specs.Bytes.{joined}
-use Rattle.dwarf.specs.Tokens.{Tokens, done, code, nested}
+use Rattle.dwarf.specs.Tokens.{done, code, nested}
 use Rattle.op.specs.declared.operation.Operation.{Operation}
 use Rattle.book_state.specs.State.{State, op_at, expression_at, operations_of}
 use Rattle.book_state.specs.Whole.{Whole}

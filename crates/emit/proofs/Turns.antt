@@ -1,13 +1,13 @@
 -- One turn of the writing: an operation that nests nothing, or the front of one that does.
-use Rattle.std.proofs.Common.{◌≡◌, ℕ, suc, ◌+◌, ◌-◌, ◌<◌, ◌≤◌, List, [], ◌∷◌, ◌++◌, length, get_or, take, Ok, Result, sym, refl, ap, ◌∙◌, subst, arith, length-append}
-use Rattle.std.proofs.lemmas.List.{append-nil, length-take}
+use Rattle.std.proofs.Common.{◌≡◌, ℕ, ◌+◌, ◌-◌, ◌<◌, ◌≤◌, List, [], ◌∷◌, ◌++◌, length, get_or, take, Ok, Result, sym, refl, ap, ◌∙◌, subst, arith, length-append}
+use Rattle.std.proofs.lemmas.List.{append-nil}
 use Rattle.common.specs.declared.encoding.Encoding.{Encoding}
 use Rattle.common.specs.declared.error.Error.{Error}
 use Rattle.common.specs.declared.fixup.DebugInfoFixup.{DebugInfoFixup}
 use Rattle.dwarf.specs.Bytes.{bytes_of, joined, size_of}
 use Rattle.dwarf.specs.Leb.{uleb}
 use Rattle.dwarf.specs.References.{references}
-use Rattle.dwarf.specs.Tokens.{Tokens, done, code, nested}
+use Rattle.dwarf.specs.Tokens.{Tokens, done}
 use Rattle.dwarf.proofs.Joining.{size_joined, references-joined}
 use Rattle.op.specs.declared.operation.Operation.{Operation}
 use Rattle.op.specs.declared.operation.Operation.TheVariants as op
@@ -18,8 +18,8 @@ use Rattle.book_state.specs.Whole.{Whole}
 use Rattle.book_tree.specs.Store.{store_of, tree_in, InBook}
 use Rattle.book_tree.proofs.Shapes.{inside_book}
 use Rattle.book_tree.proofs.Trees.{tree_is, length_operations}
-use Rattle.positions.specs.Ends.{Own, Filled}
-use Rattle.positions.proofs.Filling.{filled-own, filled_inner}
+use Rattle.positions.specs.Ends.{Filled}
+use Rattle.positions.proofs.Filling.{filled_inner}
 use Rattle.rules.specs.Encode.{encode_tree, starts}
 use Rattle.rules.specs.Operands.{by_version}
 use Rattle.rules.specs.Passes.{check_tree, tokens_tree, extent}
@@ -33,7 +33,7 @@ use Rattle.writer.specs.Meaning.{Sink, holding}
 use Rattle.emit.specs.declared.cursor.Cursor.{Cursor}
 use Rattle.emit.specs.Held.{data_at}
 use Rattle.emit.specs.Room.{Room}
-use Rattle.emit.specs.Walk.{starts_of, left_of, below, left, grown, come, Ready, moved, popped, entered, next_op, check_at, tokens_at, Walking, Moved}
+use Rattle.emit.specs.Walk.{starts_of, left_of, below, left, grown, come, Ready, moved, popped, entered, check_at, tokens_at, Walking, Moved}
 use Rattle.emit.proofs.Moves.{left-moved, come-moved, less_moved, come-popped, less_popped, come-entered, less_entered}
 use Rattle.emit.proofs.Plain.{single-shape}
 use Rattle.emit.proofs.Steps.{check_single, check_nested, left-nested, left_none}

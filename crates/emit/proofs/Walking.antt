@@ -1,10 +1,10 @@
 -- A step leaves all that is left ready to be written.
-use Rattle.std.proofs.Common.{◌≡◌, ℕ, zero, suc, ◌+◌, ◌-◌, ◌<◌, ◌≤◌, ◌≢◌, List, [], ◌∷◌, ◌++◌, length, get_or, take, set, Ok, sym, refl, ap, ◌∙◌, subst, ⊎_elim, arith, length-append, length-set}
+use Rattle.std.proofs.Common.{◌≡◌, ℕ, suc, ◌+◌, ◌-◌, ◌<◌, ◌≤◌, List, ◌++◌, length, get_or, take, set, sym, ap, ◌∙◌, subst, ⊎_elim, arith, length-append, length-set}
 use Rattle.std.proofs.lemmas.List.{get_or-set_same, get_or-set_other, length-take}
 use Rattle.std.proofs.lemmas.Bool.{cases_eq}
 use Rattle.common.specs.declared.encoding.Encoding.{Encoding}
 use Rattle.common.specs.declared.fixup.DebugInfoFixup.{DebugInfoFixup}
-use Rattle.dwarf.specs.Bytes.{bytes_of, size_of}
+use Rattle.dwarf.specs.Bytes.{bytes_of}
 use Rattle.dwarf.specs.References.{references}
 use Rattle.dwarf.proofs.Sizes.{length_bytes}
 use Rattle.op.specs.declared.operation.Operation.{Operation}
@@ -12,9 +12,8 @@ use Rattle.book_state.specs.declared.shape.Shape.TheVariants.{Nesting}
 use Rattle.book_state.specs.Operations.{shape}
 use Rattle.book_state.specs.State.{State, op_at, expression_at, depth_by}
 use Rattle.book_state.specs.Whole.{Whole}
-use Rattle.book_tree.specs.Store.{store_of, tree_in}
+use Rattle.book_tree.specs.Store.{store_of}
 use Rattle.book_tree.proofs.Trees.{depth_at}
-use Rattle.positions.specs.Ends.{Filled}
 use Rattle.positions.proofs.Filling.{filled_inner}
 use Rattle.rules.specs.Scope.{Scope}
 use Rattle.rules.specs.Tree as tree

@@ -1,5 +1,5 @@
 -- Room in a sink, and the tokens of one operation.
-use Rattle.std.specs.Prelude.{◌≡◌, ℕ, ◌+◌, ◌≤◌, true, List, length, ℤ, is_ok, Ok, Result}
+use Rattle.std.specs.Prelude.{◌≡◌, ℕ, ◌+◌, ◌≤◌, true, List, length, ℤ, is_ok, Ok}
 use Rattle.common.specs.declared.encoding.Encoding.{Encoding}
 use Rattle.dwarf.specs.Tokens.{Tokens}
 use Rattle.op.specs.declared.operation.Operation.{Operation}

@@ -4,7 +4,7 @@
 
 pub mod cursor;
 pub mod data;
-pub mod write;
 pub mod put;
 pub mod step;
 pub mod walk;
+pub mod write;

@@ -5,8 +5,8 @@ use Rattle.emit.proofs.Putting.{keeps_on}
 use Rattle.emit.proofs.Turns.{moved-popped, come_done}
 use Rattle.emit.proofs.walk.emit.Goals as goal
 
-pub walk-preserved-in-Continue· : goal.walk-preserved-in-Continue·
-walk-preserved-in-Continue· g c =
+pub walk-preserved-in-Continue-1 : goal.walk-preserved-in-Continue-1
+walk-preserved-in-Continue-1 g c =
     let i = c.walk.invariant in let m = c.step.ensures.moved in (
       m.on,
       m.came ∙ i.1,
@@ -18,13 +18,13 @@ walk-preserved-in-Continue· g c =
 pub walk-smaller : goal.walk-smaller
 walk-smaller g c =
     let i = c.walk.invariant in
-    (moved-popped c.args.encoding (scope_of c.args.unit-offsets) (view c.args.tables.now) c.args.ends.now c.requires.whole c.walk.cursor i.0.ready c.if-top-tables.false
+    (moved-popped c.args.encoding (scope_of c.args.unit_offsets) (view c.args.tables.now) c.args.ends.now c.requires.whole c.walk.cursor i.0.ready c.if-top-tables.false
     (g.W.Writer.means c.walk.w) c.walk.rows c.walk.count c.leave.new.cursor i.0 c.if-cursor-gt0.true c.leave.ensures).less
 
 pub walk-preserved : goal.walk-preserved
 walk-preserved g c =
     let i = c.walk.invariant in
-    let m = moved-popped c.args.encoding (scope_of c.args.unit-offsets) (view c.args.tables.now) c.args.ends.now c.requires.whole c.walk.cursor i.0.ready c.if-top-tables.false
+    let m = moved-popped c.args.encoding (scope_of c.args.unit_offsets) (view c.args.tables.now) c.args.ends.now c.requires.whole c.walk.cursor i.0.ready c.if-top-tables.false
     (g.W.Writer.means c.walk.w) c.walk.rows c.walk.count c.leave.new.cursor i.0 c.if-cursor-gt0.true c.leave.ensures in
     (m.on, m.came ∙ i.1, i.2, i.3)
 
@@ -35,7 +35,7 @@ returns-else-cursor-gt0 g c =
     record {
       answer = refl;
       came =
-          come_done c.args.encoding (scope_of c.args.unit-offsets) (view c.args.tables.now) c.args.ends.now c.requires.whole c.walk.cursor i.0.ready c.if-top-tables.false
+          come_done c.args.encoding (scope_of c.args.unit_offsets) (view c.args.tables.now) c.args.ends.now c.requires.whole c.walk.cursor i.0.ready c.if-top-tables.false
           (g.W.Writer.means c.walk.w) (take c.walk.count c.walk.rows) none ∙ i.1;
       used = i.0.used;
       long = i.2;

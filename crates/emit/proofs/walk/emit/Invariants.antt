@@ -11,8 +11,8 @@ decreases-walk g l = to_do (view l.tables) l.cursor
 -- the sink and the rows come to what the whole expression makes of them
 abbrev pub invariant-walk : goal.invariant-walk
 invariant-walk g l =
-    Walking l.encoding (scope_of l.unit-offsets) (view l.tables) l.ends (g.W.Writer.means l.w) l.rows l.count l.cursor
-    × (come (g.W.Writer.means l.w) (take l.count l.rows) (left l.encoding (scope_of l.unit-offsets) (view l.tables) l.cursor)
-    ≡ come (g.W.Writer.means l.initial.w) (take l.initial.count l.initial.rows) (left l.encoding (scope_of l.unit-offsets) (view l.tables) (begin l.number)))
+    Walking l.encoding (scope_of l.unit_offsets) (view l.tables) l.ends (g.W.Writer.means l.w) l.rows l.count l.cursor
+    × (come (g.W.Writer.means l.w) (take l.count l.rows) (left l.encoding (scope_of l.unit_offsets) (view l.tables) l.cursor)
+    ≡ come (g.W.Writer.means l.initial.w) (take l.initial.count l.initial.rows) (left l.encoding (scope_of l.unit_offsets) (view l.tables) (begin l.number)))
     × (length l.rows ≡ length l.initial.rows)
     × Keeps (g.W.Writer.memory l.initial.w) (g.W.Writer.memory l.w) (length (g.W.Writer.means l.w).content)

@@ -6,4 +6,4 @@ pub returns : goal.returns
 returns c =
     let r = row-freed c.args.self.now.pending c.remove.new.table c.args.self.now.pending_count c.args.index c.remove.result
     c.requires.used (omega arith) c.remove.ensures in
-    record { rows = r.0; count = omega arith; table = r.1 ∙ c.requires.table; units = refl; unit-count = refl; rising = refl }
+    record { rows = r.0; count = omega arith; table = r.1 ∙ c.requires.table; units = refl; unit_count = refl; rising = refl }

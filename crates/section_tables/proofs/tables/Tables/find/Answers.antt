@@ -10,14 +10,14 @@ returns-then-index-self c =
     let n = rows_long c.args.self.now c.requires.count c.requires.table in
     split_none c.args.offset (rows_of c.args.self.now) (known c.args.self.now c.if-not-self.false c.requires.order) c.args.size c.search-index.result c.search-index.ensures (omega arith)
 
-pub returns-then-stands-at : goal.returns-then-stands-at
-returns-then-stands-at c =
+pub returns-then-stands_at : goal.returns-then-stands_at
+returns-then-stands_at c =
     let n = rows_long c.args.self.now c.requires.count c.requires.table in
     split_first c.args.offset (rows_of c.args.self.now) (known c.args.self.now c.if-not-self.false c.requires.order) c.args.size c.search-index.result c.search-index.ensures (omega arith)
-    (ap (stands_at c.args.size c.args.offset) (sym (row_at c.args.self.now c.search-index.result c.if-index-self.false)) ∙ sym c.if-stands-at.ensures)
+    (ap (stands_at c.args.size c.args.offset) (sym (row_at c.args.self.now c.search-index.result c.if-index-self.false)) ∙ sym c.if-stands_at.ensures)
 
-pub returns-else-stands-at : goal.returns-else-stands-at
-returns-else-stands-at c =
+pub returns-else-stands_at : goal.returns-else-stands_at
+returns-else-stands_at c =
     let n = rows_long c.args.self.now c.requires.count c.requires.table in
     split_other c.args.offset (rows_of c.args.self.now) (known c.args.self.now c.if-not-self.false c.requires.order) c.args.size c.search-index.result c.search-index.ensures (omega arith)
-    (ap (stands_at c.args.size c.args.offset) (sym (row_at c.args.self.now c.search-index.result c.if-index-self.false)) ∙ sym c.if-stands-at.ensures)
+    (ap (stands_at c.args.size c.args.offset) (sym (row_at c.args.self.now c.search-index.result c.if-index-self.false)) ∙ sym c.if-stands_at.ensures)
