@@ -1,5 +1,5 @@
 -- What is answered to a question for an expression's size, as the rules have it.
-use Rattle.std.proofs.Common.{◌≡◌, ℕ, ◌-◌, ◌<◌, ◌≤◌, false, eqb, length, get_or, Some, None, Ok, Err, Option, Result, sym, refl, ap, ◌∙◌, arith}
+use Rattle.std.proofs.Common.{◌≡◌, ℕ, ◌-◌, ◌<◌, ◌≤◌, false, eqb, length, get_or, Some, None, Ok, Err, Option, Result, refl, ap, ◌∙◌, arith}
 use Rattle.std.proofs.lemmas.Bool.{ne_eqb}
 use Rattle.common.specs.declared.encoding.Encoding.{Encoding}
 use Rattle.common.specs.declared.error.Error.{Error}
@@ -11,7 +11,7 @@ use Rattle.writer.specs.Meaning.{Sink}
 use Rattle.unit.specs.Offsets.{unit_scope}
 use Rattle.expression.specs.Sealed.{size_at}
 use Rattle.claim.specs.Section.{State, unit_at}
-use Rattle.claim.specs.Calls.{Call, ask_size, ask_frame_size, Event, refused, sized, on_tree, on_value, Answer, refusal, answer, event, after}
+use Rattle.claim.specs.Calls.{Call, ask_size, ask_frame_size, Event, sized, on_tree, on_value, refusal, answer, event, after}
 use Rattle.claim.specs.Claim.{counted}
 use Rattle.section_tables.specs.declared.tables.Tables.{Tables}
 use Rattle.section_tables.specs.View.{units_of, view}

@@ -1,5 +1,5 @@
 -- What a fill leaves in the sink and the tables, as the rules have it.
-use Rattle.std.proofs.Common.{◌≡◌, ℕ, ◌+◌, ◌^◌, ◌<◌, ◌≤◌, Bool, true, false, cond, ltb, leb, ◌⊎◌, List, [], ◌∷◌, ◌++◌, length, get_or, take, drop, Some, None, Ok, Err, Option, Result, sym, refl, ap, ◌∙◌, subst, ap₂, inl, inr, arith}
+use Rattle.std.proofs.Common.{◌≡◌, ℕ, ◌+◌, ◌^◌, ◌<◌, ◌≤◌, true, leb, List, ◌++◌, length, get_or, take, drop, Some, None, Ok, Err, Result, sym, refl, ap, ◌∙◌, subst, ap₂, inl, inr, arith}
 use Rattle.std.proofs.lemmas.Bool.{lt-ltb, le-ltb, le-leb, lt-leb, cases_lt}
 use Rattle.common.specs.declared.error.Error.{Error}
 use Rattle.common.specs.declared.error.Error.TheVariants.{ValueTooLarge, NotPlaced, NotPending}
@@ -9,24 +9,8 @@ use Rattle.dwarf.specs.References.{patched}
 use Rattle.dwarf.proofs.Widths.{length_fixed}
 use Rattle.writer.specs.Meaning.{Sink, holding, patch_answer, patched as patched_to}
 use Rattle.unit.specs.declared.UnitOffsets.{UnitOffsets}
-use Rattle.claim.specs.Section.{State, entry_offset}
-use Rattle.claim.specs.Calls.{
-  Call,
-  fill,
-  Event,
-  refused,
-  filled,
-  Answer,
-  ok,
-  refusal,
-  answer,
-  event,
-  after,
-  stands_at,
-  first_of,
-  without_first,
-  filling_with,
-}
+use Rattle.claim.specs.Section.{entry_offset}
+use Rattle.claim.specs.Calls.{fill, refused, filled, ok, refusal, event, after, stands_at, first_of, without_first, filling_with}
 use Rattle.claim.specs.Claim.{plainly}
 use Rattle.section_tables.specs.declared.tables.Tables.{Tables}
 use Rattle.section_tables.specs.View.{units_of, rows_of, view}

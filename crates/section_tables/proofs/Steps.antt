@@ -1,5 +1,5 @@
 -- What the calls of a section leave in its sink and tables, as the rules have it.
-use Rattle.std.proofs.Common.{◌≡◌, ℕ, ◌+◌, ◌-◌, ◌<◌, ◌≤◌, Bool, true, false, cond, not, eqb, ltb, leb, List, [], ◌∷◌, ◌++◌, length, get_or, take, set, is_some, Some, None, Ok, Err, Option, Result, sym, refl, ap, ◌∙◌, arith}
+use Rattle.std.proofs.Common.{◌≡◌, ℕ, ◌+◌, ◌-◌, ◌<◌, ◌≤◌, Bool, true, false, cond, not, eqb, ltb, leb, List, [], ◌∷◌, ◌++◌, length, get_or, take, set, is_some, Ok, Err, Option, Result, sym, refl, ap, ◌∙◌, arith}
 use lib.Seq.{take-set-lt}
 use Rattle.std.proofs.lemmas.List.{take_more_set}
 use Rattle.std.proofs.lemmas.Bool.{lt-ltb, le-ltb, le-leb, lt-leb, ne_eqb}
@@ -36,7 +36,7 @@ use Rattle.claim.specs.Calls.{
   after,
   with_units,
 }
-use Rattle.claim.specs.Claim.{plainly, counted}
+use Rattle.claim.specs.Claim.{plainly}
 use Rattle.section_tables.specs.declared.tables.Tables.{Tables}
 use Rattle.section_tables.specs.View.{units_of, rows_of, view}
 use Rattle.section_tables.proofs.Lookups.{any_unit, rows_long, units_long, unit_at_lem}

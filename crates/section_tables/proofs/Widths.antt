@@ -1,5 +1,5 @@
 -- The references of an expression have widths in which a number can be written, and their offsets rise.
-use Rattle.std.proofs.Common.{◌≡◌, ℕ, ◌+◌, ◌<◌, ◌≤◌, Bool, true, false, cond, ◌&&◌, ltb, leb, List, [], ◌∷◌, ◌++◌, length, ℤ, Some, None, Ok, Err, Option, Result, sym, refl, ap, ◌∙◌, append_assoc, arith}
+use Rattle.std.proofs.Common.{◌≡◌, ℕ, ◌+◌, Bool, true, false, cond, ◌&&◌, ltb, leb, List, [], ◌∷◌, ◌++◌, length, ℤ, Some, None, Ok, Err, Option, Result, sym, refl, ap, ◌∙◌, arith}
 use Rattle.std.proofs.lemmas.List.{append-nil}
 use Rattle.std.proofs.lemmas.Bool.{and_parts, and_from, le-leb}
 use Rattle.common.specs.Formats.{word_size}
@@ -9,7 +9,7 @@ use Rattle.common.specs.declared.encoding.Format.TheVariants.{Dwarf32, Dwarf64}
 use Rattle.common.specs.declared.error.Error.{Error}
 use Rattle.common.specs.declared.error.Error.TheVariants.{NoRoom, TooManyReferences}
 use Rattle.common.specs.declared.fixup.DebugInfoFixup.{DebugInfoFixup}
-use Rattle.dwarf.specs.Bytes.{joined, size_of}
+use Rattle.dwarf.specs.Bytes.{size_of}
 use Rattle.dwarf.specs.Fixed.{is_width}
 use Rattle.dwarf.specs.Leb.{uleb}
 use Rattle.dwarf.specs.References.{references}
@@ -22,7 +22,7 @@ use Rattle.rules.specs.Results.{and_then}
 use Rattle.rules.specs.Scope.{Scope, in_frame}
 use Rattle.rules.specs.Tree.{Tree}
 use Rattle.rules.proofs.Rows.{Rows, by_rows}
-use Rattle.rules.proofs.Trees.{Grows, by_growth_whole}
+use Rattle.rules.proofs.Trees.{by_growth_whole}
 use Rattle.rules.proofs.Widths.{references-wide}
 use Rattle.writer.specs.Meaning.{Sink, fits}
 use Rattle.claim.specs.Claim.{Rising}

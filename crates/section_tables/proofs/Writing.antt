@@ -1,5 +1,5 @@
 -- What a write answers and leaves, as the rules have it.
-use Rattle.std.proofs.Common.{◌≡◌, ℕ, ◌+◌, ◌-◌, ◌<◌, ◌≤◌, Bool, true, false, cond, not, eqb, ltb, leb, List, [], ◌++◌, length, get_or, Some, None, Ok, Err, Option, Result, sym, refl, ap, ◌∙◌, arith}
+use Rattle.std.proofs.Common.{◌≡◌, ℕ, ◌+◌, ◌-◌, ◌<◌, ◌≤◌, Bool, true, false, cond, not, eqb, ltb, List, [], ◌++◌, length, get_or, Some, None, Ok, Err, Option, Result, sym, refl, ap, ◌∙◌, arith}
 use Rattle.std.proofs.lemmas.List.{append-nil}
 use Rattle.std.proofs.lemmas.Bool.{ne_eqb, le-ltb}
 use Rattle.common.specs.declared.encoding.Encoding.{Encoding}
@@ -18,7 +18,7 @@ use Rattle.writer.specs.Meaning.{Sink, fits}
 use Rattle.unit.specs.Offsets.{unit_scope}
 use Rattle.unit.specs.declared.UnitOffsets.{UnitOffsets}
 use Rattle.claim.specs.Section.{State, unit_at}
-use Rattle.claim.specs.Calls.{Call, write, write_frame, Event, refused, wrote, wrote_frame, refused_if, on_tree, on_value, with_room, writing, framing, Answer, refusal, answer, event, after}
+use Rattle.claim.specs.Calls.{Call, write, write_frame, Event, wrote, wrote_frame, refused_if, on_tree, on_value, writing, framing, refusal, answer, event, after}
 use Rattle.claim.specs.Claim.{counted}
 use Rattle.claim.proofs.Frames.{frame_none}
 use Rattle.section_tables.specs.declared.tables.Tables.{Tables}

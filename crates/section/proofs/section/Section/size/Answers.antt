@@ -16,4 +16,4 @@ returns g c =
     let some : 0 < c.args.self.now.tables.unit_count = omega arith in
     stepped
     (size_follows (g.W.Writer.means c.args.self.now.sink) c.args.self.now.tables c.args.self.now.units c.args.self.now.unit_table (tree_at (holds c.args.book.now) c.args.number)
-    c.size-of.result some c.size-of.ensures)
+    c.size_of.result some c.size_of.ensures)

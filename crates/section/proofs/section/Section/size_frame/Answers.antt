@@ -9,7 +9,7 @@ use Rattle.section.proofs.section.Section.size_frame.Goals as goal
 
 pub returns : goal.returns
 returns g c =
-    let frame : scope_of c.no-unit.result ≡ in_frame = ap scope_of c.no-unit.ensures in
+    let frame : scope_of c.no_unit.result ≡ in_frame = ap scope_of c.no_unit.ensures in
     stepped
-    (frame_size_follows (g.W.Writer.means c.args.self.now.sink) c.args.self.now.tables (tree_at (holds c.args.book.now) c.args.number) c.args.encoding c.size-of.result
-    (c.size-of.ensures ∙ ap (λ (s : Scope). size_at c.args.encoding s (tree_at (holds c.args.book.now) c.args.number)) frame))
+    (frame_size_follows (g.W.Writer.means c.args.self.now.sink) c.args.self.now.tables (tree_at (holds c.args.book.now) c.args.number) c.args.encoding c.size_of.result
+    (c.size_of.ensures ∙ ap (λ (s : Scope). size_at c.args.encoding s (tree_at (holds c.args.book.now) c.args.number)) frame))

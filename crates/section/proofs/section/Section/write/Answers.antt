@@ -24,63 +24,54 @@ returns-then-self-eq0 g c =
       memory = record { lent = refl; rest = λ i h. refl };
     }
 
-pub returns-in-err-size : goal.returns-in-err-size
-returns-in-err-size g c =
-    let t = c.args.self.now.tables in let k = g.W.Writer.means c.args.self.now.sink in let k' = g.W.Writer.means c.write-expression.new.w in
+pub returns-in_err-size : goal.returns-in_err-size
+returns-in_err-size g c =
+    let t = c.args.self.now.tables in let k = g.W.Writer.means c.args.self.now.sink in let k' = g.W.Writer.means c.write_expression.new.w in
     let x = tree_at (holds c.args.book.now) c.args.number in
     let last = get_or t.units (t.unit_count - 1) any_unit in
     let some : 0 < t.unit_count = omega (arith, c.if-self-eq0.false) in
     let same : set t.units (t.unit_count - 1) last ≡ t.units = set-get_or t.units (t.unit_count - 1) any_unit in
-    let t' : Tables = record { units = set t.units (t.unit_count - 1) last; unit_count = t.unit_count; pending = c.write-expression.new.rows; pending_count = c.write-expression.new.count; rising = t.rising } in
-    let e : c.from-residual.result ≡ c.write-expression.result = search rules in
+    let t' : Tables = record { units = set t.units (t.unit_count - 1) last; unit_count = t.unit_count; pending = c.write_expression.new.rows; pending_count = c.write_expression.new.count; rising = t.rising } in
+    let e : c.from_residual.result ≡ c.write_expression.result = search rules in
     record {
       step = stepped
-          (write_follows k t c.args.self.now.units c.args.self.now.unit_table x k' t' c.from-residual.result c.args.self.now.pending c.args.self.now.pending_table some
+          (write_follows k t c.args.self.now.units c.args.self.now.unit_table x k' t' c.from_residual.result c.args.self.now.pending c.args.self.now.pending_table some
           (ap (λ (us : List UnitOffsets). take t.unit_count us) same)
-          (subst (λ (r : Result ℕ Error). Wrote (written k t.pending_count last.encoding (unit_scope last) x) k k' (rows_of t) (rows_of t') r) (sym e) c.write-expression.ensures.wrote));
-      memory = c.write-expression.ensures.memory;
+          (subst (λ (r : Result ℕ Error). Wrote (written k t.pending_count last.encoding (unit_scope last) x) k k' (rows_of t) (rows_of t') r) (sym e) c.write_expression.ensures.wrote));
+      memory = c.write_expression.ensures.memory;
     }
 
-pub invariant-of-self-2 : goal.invariant-of-self-2
-invariant-of-self-2 g c =
+pub invariant_of-self-2 : goal.invariant_of-self-2
+invariant_of-self-2 g c =
     let t = c.args.self.now.tables in let k = g.W.Writer.means c.args.self.now.sink in
     let x = tree_at (holds c.args.book.now) c.args.number in
     let last = get_or t.units (t.unit_count - 1) any_unit in
-    let t' : Tables = record { units = set t.units (t.unit_count - 1) last; unit_count = t.unit_count; pending = c.write-expression.new.rows; pending_count = c.write-expression.new.count; rising = c.rises-at-rising.result } in
-    let w = c.write-expression.ensures.wrote in
-    let rises : c.rises-at-rising.result ≡ true → RisesOn (length k.content) (rows_of t) =
-    λ h. subst (λ (n : ℕ). RisesOn n (rows_of t)) c.len.ensures.value (c.rises-at-rising.ensures h) in (
-      c.args.self.now.units,
-      (
-        length-set t.units (t.unit_count - 1) last ∙ c.args.self.now.unit_table,
-        (
-          c.write-expression.ensures.used,
-          (
-            c.write-expression.auto.rows ∙ c.args.self.now.pending_table,
-            (
-              ap wide w.down ∙ wide-written k t.pending_count last.encoding (unit_scope last) (rows_of t) x c.args.self.now.widths,
-              (
-                ordered-written k t.pending_count last.encoding (unit_scope last) (rows_of t) x t' c.rises-at-rising.result refl w.down rises,
-                (c.write-expression.auto.ends ∙ c.args.self.now.ends_table, tt),
-              ),
-            ),
-          ),
-        ),
-      ),
-    )
+    let t' : Tables = record { units = set t.units (t.unit_count - 1) last; unit_count = t.unit_count; pending = c.write_expression.new.rows; pending_count = c.write_expression.new.count; rising = c.rises_at-rising.result } in
+    let w = c.write_expression.ensures.wrote in
+    let rises : c.rises_at-rising.result ≡ true → RisesOn (length k.content) (rows_of t) =
+    λ h. subst (λ (n : ℕ). RisesOn n (rows_of t)) c.len.ensures.value (c.rises_at-rising.ensures h) in
+    record {
+      units = c.args.self.now.units;
+      unit_table = length-set t.units (t.unit_count - 1) last ∙ c.args.self.now.unit_table;
+      pending = c.write_expression.ensures.used;
+      pending_table = c.write_expression.auto.rows ∙ c.args.self.now.pending_table;
+      widths = ap wide w.down ∙ wide-written k t.pending_count last.encoding (unit_scope last) (rows_of t) x c.args.self.now.widths;
+      order = ordered-written k t.pending_count last.encoding (unit_scope last) (rows_of t) x t' c.rises_at-rising.result refl w.down rises;
+      ends_table = c.write_expression.auto.ends ∙ c.args.self.now.ends_table;
+    }
 
 pub returns : goal.returns
 returns g c =
-    let t = c.args.self.now.tables in let k = g.W.Writer.means c.args.self.now.sink in let k' = g.W.Writer.means c.write-expression.new.w in
+    let t = c.args.self.now.tables in let k = g.W.Writer.means c.args.self.now.sink in let k' = g.W.Writer.means c.write_expression.new.w in
     let x = tree_at (holds c.args.book.now) c.args.number in
     let last = get_or t.units (t.unit_count - 1) any_unit in
     let some : 0 < t.unit_count = omega (arith, c.if-self-eq0.false) in
     let same : set t.units (t.unit_count - 1) last ≡ t.units = set-get_or t.units (t.unit_count - 1) any_unit in
-    let t' : Tables = record { units = set t.units (t.unit_count - 1) last; unit_count = t.unit_count; pending = c.write-expression.new.rows; pending_count = c.write-expression.new.count; rising = c.rises-at-rising.result } in
+    let t' : Tables = record { units = set t.units (t.unit_count - 1) last; unit_count = t.unit_count; pending = c.write_expression.new.rows; pending_count = c.write_expression.new.count; rising = c.rises_at-rising.result } in
     record {
       step = stepped
           (write_follows k t c.args.self.now.units c.args.self.now.unit_table x k' t' _ c.args.self.now.pending c.args.self.now.pending_table some
           (ap (λ (us : List UnitOffsets). take t.unit_count us) same)
-          c.in-ok-size.ensures.wrote);
-      memory = c.write-expression.ensures.memory;
+          c.in_ok-size.ensures.wrote);
+      memory = c.write_expression.ensures.memory;
     }

@@ -1,4 +1,4 @@
-use Rattle.std.proofs.Common.{◌≡◌, refl, ◌∙◌, arith}
+use Rattle.std.proofs.Common.{refl, ◌∙◌, arith}
 use Rattle.section_tables.proofs.Lookups.{row-freed}
 use Rattle.section_tables.proofs.tables.Tables.close.Goals as goal
 

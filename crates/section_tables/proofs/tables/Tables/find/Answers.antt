@@ -1,4 +1,4 @@
-use Rattle.std.proofs.Common.{◌≡◌, sym, ap, ◌∙◌, arith}
+use Rattle.std.proofs.Common.{sym, ap, ◌∙◌, arith}
 use Rattle.claim.specs.Calls.{stands_at}
 use Rattle.section_tables.specs.View.{rows_of}
 use Rattle.section_tables.proofs.Lookups.{row_at, rows_long}

@@ -1,4 +1,4 @@
-use Rattle.std.proofs.Common.{◌≡◌, sym, ap, ◌∙◌, arith, below_more}
+use Rattle.std.proofs.Common.{sym, ap, ◌∙◌, arith, below_more}
 use Rattle.claim.specs.Calls.{stands_at}
 use Rattle.section_tables.specs.View.{rows_of}
 use Rattle.section_tables.proofs.Firsts.{first_at, none_first}

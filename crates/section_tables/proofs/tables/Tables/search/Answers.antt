@@ -1,7 +1,7 @@
-use Rattle.std.proofs.Common.{◌≡◌, ◌+◌, ◌-◌, ◌/◌, ◌<◌, ◌≤◌, sym, ap, ◌∙◌, arith}
+use Rattle.std.proofs.Common.{◌+◌, ◌-◌, ◌/◌, arith}
 use Rattle.section_tables.specs.View.{rows_of}
 use Rattle.section_tables.proofs.Lookups.{row_at, rows_long}
-use Rattle.section_tables.proofs.Rises.{raise, lower, split}
+use Rattle.section_tables.proofs.Rises.{raise, lower}
 use Rattle.section_tables.proofs.tables.Tables.search.Goals as goal
 
 pub loop-low-preserved-then-self-middle : goal.loop-low-preserved-then-self-middle
