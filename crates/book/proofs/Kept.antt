@@ -1,7 +1,8 @@
 -- A call's tables stay whole, and their expressions in order.
 use Rattle.std.proofs.Common.{◌≡◌, ap, subst}
 use Rattle.book_state.specs.State.{State}
-use Rattle.book_state.specs.Whole.{Whole, Ordered, Kept}
+use Rattle.book_state.specs.Whole.{Whole, Ordered}
+use Rattle.book_state.proofs.Kept.{Kept}
 use Rattle.book_state.proofs.Recovered.{recovered, recovered_order}
 
 pub kept : {A : Type 0} (s t : State) (a : A) (p : A × State) → ∥ Whole s ∥₁ → ∥ Ordered s ∥₁ → (Kept s → Kept p.1) → p ≡ (a, t) → record { whole : ∥ Whole t ∥₁; ordered : ∥ Ordered t ∥₁ }

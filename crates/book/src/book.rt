@@ -8,7 +8,7 @@ use book_tables::tables::Tables;
 /// Expressions, in two lent tables: one of operations and one of their data.
 ///
 /// In every sealed expression each branch has a target of at most the operation count, each nested expression was sealed earlier
-/// and is nested once, and all data lie inside the book.
+/// and is nested once, and all data lie inside the book. Sealed expressions lie one behind the other.
 #[derive(Drop)]
 pub struct Book<'a> {
     pub(crate) tables: Tables<'a>,

@@ -9,7 +9,8 @@ use Rattle.book_state.specs.declared.shape.Shape.TheVariants.{Branching, Nesting
 use Rattle.book_state.specs.Operations.{shape, entries_fit, aimed_at, unset}
 use Rattle.book_state.specs.State.{State, op_at, expression_at, no_operation, slice, draft, gathered, depth_by, depth_of, data_by, weight_by, weight_of}
 use Rattle.book_state.specs.Calls.{aimed}
-use Rattle.book_state.specs.Whole.{in_order, Closed, Drafted, Named, Flagged, Used, Once, Kept}
+use Rattle.book_state.specs.Whole.{in_order, Closed, Drafted, Named, Flagged, Used, Once}
+use Rattle.book_state.proofs.Kept.{Kept}
 use Rattle.book_state.proofs.Slices.{slice_behind, slice_same}
 use Rattle.book_state.proofs.Shapes.{unset_is, aimed-shape, aimed-named}
 

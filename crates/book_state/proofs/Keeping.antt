@@ -9,7 +9,8 @@ use Rattle.book_state.specs.declared.expression.Expression.{Expression}
 use Rattle.book_state.specs.Operations.{shape, entries_fit, any_unset}
 use Rattle.book_state.specs.State.{State, no_expression, sealed_at, draft, fits, place}
 use Rattle.book_state.specs.Calls.{begun, raw_begun, added, branched, nested_at, nested, is_branch, target_set, sealed, discarded, taken}
-use Rattle.book_state.specs.Whole.{Bare, Kept}
+use Rattle.book_state.specs.Whole.{Bare}
+use Rattle.book_state.proofs.Kept.{Kept}
 use Rattle.book_state.proofs.Opened.{keep_opened}
 use Rattle.book_state.proofs.Pushed.{keep-pushed}
 use Rattle.book_state.proofs.Aimed.{keep-aimed}

@@ -11,3 +11,4 @@ pub mod Keeping
 pub mod Recovered
 pub mod Raw
 pub mod Nested
+pub mod Kept

@@ -7,7 +7,7 @@ use Rattle.op.specs.declared.operation.Operation.{Operation}
 use Rattle.book_state.specs.declared.expression.Expression.{Expression}
 use Rattle.book_state.specs.State.{State, fresh, expression_of, no_expression}
 use Rattle.book_state.specs.Calls.{opened}
-use Rattle.book_state.specs.Whole.{Kept}
+use Rattle.book_state.proofs.Kept.{Kept}
 
 none_there : (k : ℕ) → expression_of (replicate 1024 no_expression) k ≡ no_expression
 none_there k = ⊎_elim

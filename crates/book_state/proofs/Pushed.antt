@@ -8,7 +8,8 @@ use Rattle.book_state.specs.declared.shape.Shape.TheVariants.{Nesting}
 use Rattle.book_state.specs.Operations.{shape, entries_fit}
 use Rattle.book_state.specs.State.{State, op_at, expression_at, no_operation, slice, draft, depth_by, depth_of, data_by, data_of, weight_by, weight_of}
 use Rattle.book_state.specs.Calls.{overwritten, pushed}
-use Rattle.book_state.specs.Whole.{Counted, in_order, Bare, Closed, Drafted, Named, Flagged, Once, Kept}
+use Rattle.book_state.specs.Whole.{Counted, in_order, Bare, Closed, Drafted, Named, Flagged, Once}
+use Rattle.book_state.proofs.Kept.{Kept}
 use Rattle.book_state.proofs.Slices.{slice_behind, slice_push, sum_push, max_push}
 use Rattle.book_state.proofs.Shapes.{order_more, bare_order, bare_flat, bare_data, bare_depth, bare_nested}
 

@@ -8,7 +8,8 @@ use Rattle.book_state.specs.declared.shape.Shape.TheVariants.{Nesting}
 use Rattle.book_state.specs.Operations.{shape, unset, any_unset}
 use Rattle.book_state.specs.State.{State, op_at, expression_at, no_expression, no_operation, slice, draft, depth_by, depth_of, data_of, weight_by, weight_of}
 use Rattle.book_state.specs.Calls.{new_expression, shut}
-use Rattle.book_state.specs.Whole.{Counted, in_order, Ends, Ordered, Closed, Flagged, Used, Deep, Weighed, Kept}
+use Rattle.book_state.specs.Whole.{Counted, in_order, Ends, Ordered, Closed, Flagged, Used, Deep, Weighed}
+use Rattle.book_state.proofs.Kept.{Kept}
 use Rattle.book_state.proofs.Slices.{length-slice, slice_at, slice_none, slice_same}
 use Rattle.book_state.proofs.Shapes.{order_more, order_closed, depth_old, weight_old}
 use Rattle.book_state.proofs.Roots.{roots_push}

@@ -9,7 +9,8 @@ use Rattle.book_state.specs.declared.shape.Shape.TheVariants.{Nesting}
 use Rattle.book_state.specs.Operations.{shape}
 use Rattle.book_state.specs.State.{State, op_at, expression_of, expression_at, no_expression, slice, draft, depth_by, depth_of, data_by, data_of, weight_by, weight_of}
 use Rattle.book_state.specs.Calls.{pushed, marked, unmarked, taken}
-use Rattle.book_state.specs.Whole.{Counted, in_order, roots, Closed, Flagged, Used, Once, Kept}
+use Rattle.book_state.specs.Whole.{Counted, in_order, roots, Closed, Flagged, Used, Once}
+use Rattle.book_state.proofs.Kept.{Kept}
 use Rattle.book_state.proofs.Slices.{gathered_ext, sum_push, max_push}
 use Rattle.book_state.proofs.Shapes.{depth_kept, weight_kept}
 use Rattle.book_state.proofs.Pushed.{last, before, pushed-counted, pushed-closed, pushed_drafted, pushed-named, pushed_used, draft-pushed, sealed-pushed}

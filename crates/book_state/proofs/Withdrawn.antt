@@ -8,7 +8,8 @@ use Rattle.book_state.specs.declared.shape.Shape.TheVariants.{Nesting}
 use Rattle.book_state.specs.Operations.{shape}
 use Rattle.book_state.specs.State.{State, op_at, expression_of, expression_at, no_operation, slice, draft, depth_by, depth_of, data_of, weight_by, weight_of}
 use Rattle.book_state.specs.Calls.{unmarked, freed, withdrawn}
-use Rattle.book_state.specs.Whole.{Counted, in_order, roots, Used, Kept}
+use Rattle.book_state.specs.Whole.{Counted, in_order, roots, Used}
+use Rattle.book_state.proofs.Kept.{Kept}
 use Rattle.book_state.proofs.Slices.{length-slice, slice_at, slice_none, gathered_ext}
 use Rattle.book_state.proofs.Shapes.{depth_kept, weight_kept}
 use Rattle.book_state.proofs.Roots.{kept_freed, length-freed, other_freed, stays_all, freed_all, roots-freed, weight_parts}

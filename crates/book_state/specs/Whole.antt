@@ -110,8 +110,3 @@ pub record Whole (s : State) : Type 0 where
   pub held : s.byte_start + data_of (draft s) ≡ s.byte_count
   -- expressions that none holds and the draft weigh as much as all operations and data
   pub total : roots (take s.sealed_count s.expressions) + weight_of s.expressions (draft s) ≡ 266 * s.op_count + s.byte_count
-
--- and the order of its expressions
-pub record Kept (s : State) : Type 0 where
-  pub whole : Whole s
-  pub ordered : Ordered s
