@@ -4,16 +4,14 @@
 
 #![tactic(auto)]
 
-use anyhow::anyhow;
+use anyhow::{anyhow, bail};
 use runner::run::{Ending, run};
 use std::io::Read;
 use std::{env, fs, io};
 
 /// Reads the script.
 fn read_script(rt: &HostRuntime) -> io::Result<Vec<u8>> {
-    let mut args = env::args(rt)?;
-    let _program = args.next();
-    match args.next() {
+    match env::args(rt)?.nth(1) {
         Some(path) => fs::read(rt, path.as_str()),
         None => {
             let mut text = Vec::new(rt.alloc());
@@ -29,16 +27,13 @@ fn run_script(rt: &HostRuntime) -> anyhow::Result<Ending> {
     let mut out = String::new(rt.alloc());
     let ending = run(rt.alloc(), script.as_slice(), &mut out);
     rt.print(out.as_str())?;
-    match ending {
-        Ok(ending) => Ok(ending),
-        Err(_) => Err(anyhow!("out of memory")),
-    }
+    ending.map_err(|_| anyhow!("out of memory"))
 }
 
 fn main(rt: HostRuntime) -> anyhow::Result<()> {
     match run_script(&rt)? {
-        Ending::Faulty => Err(anyhow!("the script has an error")),
-        _ => Ok(()),
+        Ending::Complete => Ok(()),
+        Ending::Faulty => bail!("the script has an error"),
     }
 }
 

@@ -1,5 +1,6 @@
 //! The book.
 
+ghost use Rattle.book_state.specs.Props.{ordered_prop, whole_prop};
 ghost use Rattle.book_state.specs.Whole.{Ordered, Whole};
 ghost use Rattle.book_tables.specs.View.{view};
 
@@ -12,6 +13,6 @@ use book_tables::tables::Tables;
 #[derive(Drop)]
 pub struct Book<'a> {
     pub(crate) tables: Tables<'a>,
-    ghost whole: { ∥ Whole (view tables) ∥₁ },
-    ghost ordered: { ∥ Ordered (view tables) ∥₁ },
+    ghost whole: { Whole (view tables) } by { whole_prop (view tables) },
+    ghost ordered: { Ordered (view tables) } by { ordered_prop (view tables) },
 }

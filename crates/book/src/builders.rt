@@ -152,22 +152,14 @@ impl Draft {
     pub fn op_skip(&self, book: &mut Book<'_>) -> Result<Ticket, Error>
         ensures { answered ticketed (branched (Operation.Skip None) (holds book.old)) ≡ (result, holds book.new) }
     {
-        let branch = book.add_branch(Operation::Skip(None))?;
-        Ok(Ticket {
-            branch,
-            spent: false,
-        })
+        book.add_branch(Operation::Skip(None)).map(Ticket::of)
     }
 
     /// Adds `DW_OP_bra`: a branch taken where the top of the stack is not zero, whose ticket is to be spent.
     pub fn op_bra(&self, book: &mut Book<'_>) -> Result<Ticket, Error>
         ensures { answered ticketed (branched (Operation.Branch None) (holds book.old)) ≡ (result, holds book.new) }
     {
-        let branch = book.add_branch(Operation::Branch(None))?;
-        Ok(Ticket {
-            branch,
-            spent: false,
-        })
+        book.add_branch(Operation::Branch(None)).map(Ticket::of)
     }
 
     /// Adds `DW_OP_call4`: a call of an entry of the unit.

@@ -22,23 +22,14 @@ impl<'a> Book<'a> {
     pub fn new(operations: &'a mut [Operation], bytes: &'a mut [u8]) -> Book<'a>
         ensures { holds result ≡ fresh operations.old bytes.old }
     {
-        let none = Expression {
-            start: 0,
-            count: 0,
-            depth: 0,
-            weight: 0,
-            nested: false,
-        };
         let tables = Tables {
             operations,
             bytes,
-            expressions: [none; 1024],
+            expressions: [Expression::default(); 1024],
             op_count: 0,
             byte_count: 0,
             sealed_count: 0,
-            start: 0,
-            byte_start: 0,
-            drafting: false,
+            draft: None,
         };
         Book { tables }
     }

@@ -33,19 +33,13 @@ impl Draft {
     pub fn seal(self, book: &mut Book<'_>) -> Result<usize, (Draft, Error)>
         ensures { answered (handed_back self) (sealed (holds book.old)) ≡ (result, holds book.new) }
     {
-        match book.close() {
-            Ok(number) => Ok(number),
-            Err(error) => Err((self, error)),
-        }
+        book.close().map_err(|error| (self, error))
     }
 
     /// Frees the draft's operations, data and nested expressions. Refusing, it hands the draft back.
     pub fn discard(self, book: &mut Book<'_>) -> Result<(), (Draft, Error)>
         ensures { answered (handed_back self) (discarded (holds book.old)) ≡ (result, holds book.new) }
     {
-        match book.withdraw() {
-            Ok(()) => Ok(()),
-            Err(error) => Err((self, error)),
-        }
+        book.withdraw().map_err(|error| (self, error))
     }
 }

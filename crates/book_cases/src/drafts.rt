@@ -1,29 +1,21 @@
 //! Drafts: opened twice, handed to another book, sealed and discarded.
 
-use crate::answers;
+use crate::answers::{Answer, Lost, NOP, show};
 use book::book::Book;
 use common::constants::DW_OP_NOP;
 use op::operation::Operation;
 use std::io;
 
-/// What stands in a case that did not get to its end.
-const LOST: u8 = 99;
-
-/// What the tables hold at first.
-const NOP: Operation = Operation::Simple(DW_OP_NOP);
-
 /// A second `begin` and `raw` while a draft is open, and again after it is sealed.
-pub fn opened_twice(operations: &mut [Operation], bytes: &mut [u8]) -> [u8; 5] {
+pub fn opened_twice(operations: &mut [Operation], bytes: &mut [u8]) -> Result<[Answer; 5], Lost> {
     let mut book = Book::new(operations, bytes);
-    let Ok(draft) = book.begin() else {
-        return [LOST; 5];
-    };
-    let second = answers::opened(book.begin());
-    let raw = answers::opened(book.raw(b"x"));
-    let sealed = answers::sealed(draft.seal(&mut book));
-    let again = answers::opened(book.raw(b"x"));
-    let third = answers::opened(book.begin());
-    [second, raw, sealed, again, third]
+    let draft = book.begin()?;
+    let second = book.begin().into();
+    let raw = book.raw(b"x").into();
+    let sealed = draft.seal(&mut book).into();
+    let again = book.raw(b"x").into();
+    let third = book.begin().into();
+    Ok([second, raw, sealed, again, third])
 }
 
 /// A draft handed to a book that has none open: every call refuses with 20, before any other refusal.
@@ -32,30 +24,33 @@ pub fn other_book(
     bytes: &mut [u8],
     others: &mut [Operation],
     data: &mut [u8],
-) -> [u8; 8] {
+) -> Result<[Answer; 8], Lost> {
     let mut book = Book::new(operations, bytes);
     let mut other = Book::new(others, data);
-    let Ok(draft) = book.begin() else {
-        return [LOST; 8];
+    let draft = book.begin()?;
+    let constu = draft.op_constu(&mut other, 1).into();
+    let call = draft.op_call(&mut other, 128).into();
+    let nested = draft.op_entry_value(&mut other, 0).into();
+    let skip = draft.op_skip(&mut other).into();
+    let ticket = draft.op_skip(&mut book)?;
+    let target = draft.set_target(&mut other, ticket, 1).into();
+    let Err((draft, sealed)) = draft.seal(&mut other) else {
+        return Err(Lost);
     };
-    let constu = answers::plain(draft.op_constu(&mut other, 1));
-    let call = answers::plain(draft.op_call(&mut other, 128));
-    let nested = answers::plain(draft.op_entry_value(&mut other, 0));
-    let skip = answers::ticket(draft.op_skip(&mut other));
-    let target = match draft.op_skip(&mut book) {
-        Ok(ticket) => answers::aimed(draft.set_target(&mut other, ticket, 1)),
-        Err(_) => LOST,
+    let Err((draft, discarded)) = draft.discard(&mut other) else {
+        return Err(Lost);
     };
-    let (sealed, draft) = match draft.seal(&mut other) {
-        Ok(_) => return [LOST; 8],
-        Err((draft, e)) => (e.number(), draft),
-    };
-    let (discarded, draft) = match draft.discard(&mut other) {
-        Ok(()) => return [LOST; 8],
-        Err((draft, e)) => (e.number(), draft),
-    };
-    let own = answers::discarded(draft.discard(&mut book));
-    [constu, call, nested, skip, target, sealed, discarded, own]
+    let own = draft.discard(&mut book).into();
+    Ok([
+        constu,
+        call,
+        nested,
+        skip,
+        target,
+        Answer::Refused(sealed),
+        Answer::Refused(discarded),
+        own,
+    ])
 }
 
 /// A draft handed to a book with a draft of its own acts on that one.
@@ -64,62 +59,52 @@ pub fn other_draft(
     bytes: &mut [u8],
     others: &mut [Operation],
     data: &mut [u8],
-) -> [usize; 4] {
+) -> Result<[Answer; 4], Lost> {
     let mut book = Book::new(operations, bytes);
     let mut other = Book::new(others, data);
-    let Ok(draft) = book.begin() else {
-        return [99; 4];
-    };
-    let Ok(own) = other.begin() else {
-        return [99; 4];
-    };
+    let draft = book.begin()?;
+    let own = other.begin()?;
     let _ = draft.op_constu(&mut other, 1);
     let _ = draft.op_constu(&mut other, 2);
-    let here = book.next_index();
-    let there = other.next_index();
+    let here = Answer::Count(book.next_index());
+    let there = Answer::Count(other.next_index());
     let _ = draft.discard(&mut other);
-    let after = other.next_index();
-    let refused = answers::plain(own.op_constu(&mut other, 3));
-    [here, there, after, usize::from(refused)]
+    let after = Answer::Count(other.next_index());
+    let refused = own.op_constu(&mut other, 3).into();
+    Ok([here, there, after, refused])
 }
 
 /// A discarded draft leaves its places to the next one.
-pub fn discarded(operations: &mut [Operation], bytes: &mut [u8]) -> [u8; 6] {
+pub fn discarded(operations: &mut [Operation], bytes: &mut [u8]) -> Result<[Answer; 6], Lost> {
     let mut book = Book::new(operations, bytes);
-    let Ok(draft) = book.begin() else {
-        return [LOST; 6];
-    };
-    let first = answers::plain(draft.op_implicit_value(&mut book, b"a"));
-    let full = answers::plain(draft.op_implicit_value(&mut book, b""));
-    let gone = answers::discarded(draft.discard(&mut book));
-    let Ok(draft) = book.begin() else {
-        return [LOST; 6];
-    };
-    let second = answers::plain(draft.op_implicit_value(&mut book, b"b"));
-    let sealed = answers::sealed(draft.seal(&mut book));
-    let Ok(draft) = book.begin() else {
-        return [LOST; 6];
-    };
-    let third = answers::plain(draft.op(&mut book, DW_OP_NOP));
-    [first, full, gone, second, sealed, third]
+    let draft = book.begin()?;
+    let first = draft.op_implicit_value(&mut book, b"a").into();
+    let full = draft.op_implicit_value(&mut book, b"").into();
+    let gone = draft.discard(&mut book).into();
+    let draft = book.begin()?;
+    let second = draft.op_implicit_value(&mut book, b"b").into();
+    let sealed = draft.seal(&mut book).into();
+    let draft = book.begin()?;
+    let third = draft.op(&mut book, DW_OP_NOP).into();
+    Ok([first, full, gone, second, sealed, third])
 }
 
 /// Prints the answers.
 pub fn print(rt: &impl Print) -> io::Result<()> {
-    println!(rt;
-        "opened twice: {:?}",
-        opened_twice(&mut [NOP; 8], &mut [7; 8])
+    show(rt, "opened twice", opened_twice(&mut [NOP; 8], &mut [7; 8]))?;
+    show(
+        rt,
+        "draft of another book",
+        other_book(&mut [NOP; 8], &mut [7; 8], &mut [NOP; 8], &mut [7; 8]),
     )?;
-    println!(rt;
-        "draft of another book: {:?}",
-        other_book(&mut [NOP; 8], &mut [7; 8], &mut [NOP; 8], &mut [7; 8])
+    show(
+        rt,
+        "draft beside another draft",
+        other_draft(&mut [NOP; 8], &mut [7; 8], &mut [NOP; 8], &mut [7; 8]),
     )?;
-    println!(rt;
-        "draft beside another draft: {:?}",
-        other_draft(&mut [NOP; 8], &mut [7; 8], &mut [NOP; 8], &mut [7; 8])
-    )?;
-    println!(rt;
-        "discarded, in tables of one: {:?}",
-        discarded(&mut [NOP; 1], &mut [7; 1])
+    show(
+        rt,
+        "discarded, in tables of one",
+        discarded(&mut [NOP; 1], &mut [7; 1]),
     )
 }

@@ -16,14 +16,11 @@ fn skip_over(book: &mut Book<'_>, value: u64) -> Result<usize, Error> {
         ticket.give_up();
         return Err(error);
     }
-    if let Err((unset, error)) = draft.set_target(book, ticket, 2) {
+    draft.set_target(book, ticket, 2).map_err(|(unset, error)| {
         unset.give_up();
-        return Err(error);
-    }
-    match draft.seal(book) {
-        Ok(number) => Ok(number),
-        Err((_draft, error)) => Err(error),
-    }
+        error
+    })?;
+    draft.seal(book).map_err(|(_draft, error)| error)
 }
 
 fn main(rt: HostRuntime) -> io::Result<()> {
@@ -32,9 +29,6 @@ fn main(rt: HostRuntime) -> io::Result<()> {
     let mut book = Book::new(&mut operations, &mut bytes);
     match skip_over(&mut book, 5) {
         Ok(number) => println!(rt; "sealed {number}"),
-        Err(error) => {
-            let name = error.name();
-            println!(rt; "refused: {name}")
-        }
+        Err(error) => println!(rt; "refused: {}", error.name()),
     }
 }

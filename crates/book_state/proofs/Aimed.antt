@@ -24,7 +24,7 @@ module _ (b t : ℕ) (s : State) (lb : b < s.op_count - s.start) (u : unset (sha
 
   not_nested : (p m : ℕ) → p ≡ s.start + b → shape (op_at (aimed b t s) p) ≡ Nesting m → ⊥
   not_nested p m q e =
-      let k : Branching (Some t) ≡ Nesting m = sym here ∙ (sym (ap (λ j. shape (op_at (aimed b t s) j)) q) ∙ e) in let z : ◌≡◌ {A = ℕ} 0 1 = cc in omega arith
+      let k : Branching (Some t) ≡ Nesting m = sym here ∙ (sym (ap (λ j. shape (op_at (aimed b t s) j)) q) ∙ e) in cc
 
   closed : Closed (aimed b t s)
   closed k i hk hi =
@@ -51,7 +51,7 @@ module _ (b t : ℕ) (s : State) (lb : b < s.op_count - s.start) (u : unset (sha
   used : Used (aimed b t s)
   used m h = ∥∥₁_map (w.whole.used m h) (λ q.
       let other : q.0 ≡ s.start + b → ⊥ = λ e.
-      let k : Branching None ≡ Nesting m = sym (unset_is (shape (op_at s (s.start + b))) u) ∙ (sym (ap (λ j. shape (op_at s j)) e) ∙ q.2) in let z : ◌≡◌ {A = ℕ} 0 1 = cc in omega arith in
+      let k : Branching None ≡ Nesting m = sym (unset_is (shape (op_at s (s.start + b))) u) ∙ (sym (ap (λ j. shape (op_at s j)) e) ∙ q.2) in cc in
       (q.0, q.1, ap shape (there q.0 other) ∙ q.2))
 
   once : Once (aimed b t s)

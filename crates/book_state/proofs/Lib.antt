@@ -8,7 +8,5 @@ pub mod Shut
 pub mod Withdrawn
 pub mod Opened
 pub mod Keeping
-pub mod Recovered
 pub mod Raw
-pub mod Nested
 pub mod Kept

@@ -35,7 +35,7 @@ keep-fresh ops bs = record {
     drafted = λ p l h. absurd (omega arith);
     named = λ p l. absurd (omega arith);
     flagged = λ p m l e. absurd (omega arith);
-    used = λ m h. let e = ap (λ (x : Expression). x.nested) (none_there m) in let z : ◌≡◌ {A = ℕ} 0 1 = cc in absurd (omega arith);
+    used = λ m h. let e = ap (λ (x : Expression). x.nested) (none_there m) in absurd (cc);
     once = λ p q m l h e f. omega arith;
     deep = λ k l. absurd (omega arith);
     weighed = λ k l. absurd (omega arith);
@@ -62,7 +62,7 @@ module _ (s : State) (o : s.drafting ≡ false) (room : s.sealed_count < 1024) (
         sealed_within = c.sealed_within;
         table = c.table;
         room = λ e. room;
-        idle = λ e. let z : ◌≡◌ {A = ℕ} 0 1 = cc in absurd (omega arith);
+        idle = λ e. absurd (cc);
         light = c.light;
         shallow = c.shallow;
       };

@@ -36,7 +36,7 @@ module _ (x : Operation) (bs : List ℕ) (s : State) (o : s.drafting ≡ true) (
     sealed_within = c.sealed_within;
     table = c.table;
     room = c.room;
-    idle = λ e. let z : ◌≡◌ {A = ℕ} 0 1 = cc in absurd (omega arith);
+    idle = λ e. absurd (cc);
     light = c.light;
     shallow = c.shallow;
   }

@@ -47,9 +47,9 @@ module _ (bs : List ℕ) (s : State) (few : length bs ≤ 65535) where
   bare_order (Nesting m) b k c = absurd b
 
   pub bare_flat : (h : Shape) → Bare bs s h → (m : ℕ) → h ≡ Nesting m → ⊥
-  bare_flat Plain b m e = let z : ◌≡◌ {A = ℕ} 0 1 = cc in omega arith
-  bare_flat (Holding d) b m e = let z : ◌≡◌ {A = ℕ} 0 1 = cc in omega arith
-  bare_flat (Branching t) b m e = let z : ◌≡◌ {A = ℕ} 0 1 = cc in omega arith
+  bare_flat Plain b m e = cc
+  bare_flat (Holding d) b m e = cc
+  bare_flat (Branching t) b m e = cc
   bare_flat (Nesting n) b m e = b
 
   pub bare_data : (h : Shape) → Bare bs s h → data_by h ≡ length bs

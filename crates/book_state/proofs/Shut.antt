@@ -1,7 +1,8 @@
 -- A draft is sealed.
-use Rattle.std.proofs.Common.{◌≡◌, ℕ, zero, suc, ◌+◌, ◌-◌, ◌<◌, ◌≤◌, max, Bool, true, false, cond, List, [], ◌∷◌, length, get_or, set, sym, refl, ap, ◌∙◌, subst, ⊎_elim, arith, length-set}
+use Rattle.std.proofs.Common.{◌≡◌, ℕ, ◌+◌, ◌-◌, ◌<◌, ◌≤◌, max, Bool, true, false, List, [], length, get_or, set, sym, refl, ap, ◌∙◌, subst, ⊎_elim, arith, length-set}
 use Rattle.std.proofs.lemmas.List.{get_or-set_same, get_or-set_other}
-use Rattle.std.proofs.lemmas.Bool.{cases_eq}
+use Rattle.std.proofs.lemmas.List.Folds.{list_any_at}
+use Rattle.std.proofs.lemmas.Bool.{cases_eq, cases_Bool}
 use Rattle.op.specs.declared.operation.Operation.{Operation}
 use Rattle.book_state.specs.declared.expression.Expression.{Expression}
 use Rattle.book_state.specs.declared.shape.Shape.TheVariants.{Nesting}
@@ -14,14 +15,8 @@ use Rattle.book_state.proofs.Slices.{length-slice, slice_at, slice_none, slice_s
 use Rattle.book_state.proofs.Shapes.{order_more, order_closed, depth_old, weight_old}
 use Rattle.book_state.proofs.Roots.{roots_push}
 
-cond_split : (b c : Bool) → cond b true c ≡ false → (b ≡ false) × (c ≡ false)
-cond_split true c e = (e, cc)
-cond_split false c e = (refl, e)
-
 all_set : (xs : List Operation) (i : ℕ) → any_unset xs ≡ false → i < length xs → unset (shape (get_or xs i no_operation)) ≡ false
-all_set [] i e l = absurd (omega arith)
-all_set (x ∷ xs) zero e l = (cond_split (unset (shape x)) (any_unset xs) e).0
-all_set (x ∷ xs) (suc i) e l = all_set xs i (cond_split (unset (shape x)) (any_unset xs) e).1 (omega arith)
+all_set xs i e l = ⊎_elim (λ t. let h = list_any_at (λ x. unset (shape x)) xs i no_operation l t in cc) (λ f. f) (cases_Bool (unset (shape (get_or xs i no_operation))))
 
 module _ (s : State) (o : s.drafting ≡ true) (u : any_unset (draft s) ≡ false) (w : Kept s) where
   room : s.sealed_count < 1024
@@ -59,7 +54,7 @@ module _ (s : State) (o : s.drafting ≡ true) (u : any_unset (draft s) ≡ fals
     bytes_since = omega arith;
     sealed_within = omega arith;
     table = simp length-set c.table;
-    room = λ e. let z : ◌≡◌ {A = ℕ} 0 1 = cc in absurd (omega arith);
+    room = λ e. absurd (cc);
     idle = λ e. (refl, refl);
     light = each (λ k e. e.weight ≤ 1155071) c.light weight_bound;
     shallow = each (λ k e. e.depth ≤ 16) c.shallow w.whole.low;
@@ -90,7 +85,7 @@ module _ (s : State) (o : s.drafting ≡ true) (u : any_unset (draft s) ≡ fals
   flagged p m l e = let f = w.whole.flagged p m l e in let g = f.0 in (omega arith, ap (λ (x : Expression). x.nested) (old m (λ q. omega arith)) ∙ f.1)
 
   used : Used (shut s)
-  used = each (λ m e. e.nested ≡ true → ∥ ((p : ℕ) × (p < s.op_count) × (shape (op_at s p) ≡ Nesting m)) ∥₁) w.whole.used (λ h. let z : ◌≡◌ {A = ℕ} 0 1 = cc in absurd (omega arith))
+  used = each (λ m e. e.nested ≡ true → ∥ ((p : ℕ) × (p < s.op_count) × (shape (op_at s p) ≡ Nesting m)) ∥₁) w.whole.used (λ h. absurd (cc))
 
   -- operations in order measure as before
   module _ (k a n v c : ℕ) (missing : Bool) (lk : k ≤ s.sealed_count) (within : a + n ≤ length s.operations)

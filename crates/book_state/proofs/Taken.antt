@@ -1,5 +1,5 @@
 -- An entry value of a sealed expression is added to a draft.
-use Rattle.std.proofs.Common.{◌≡◌, ℕ, ◌+◌, ◌-◌, ◌*◌, ◌<◌, ◌≤◌, min, max, Bool, true, false, List, [], length, take, set, sym, refl, ap, ◌∙◌, subst, ⊎_elim, arith, length-set}
+use Rattle.std.proofs.Common.{◌≡◌, ℕ, ◌+◌, ◌-◌, ◌*◌, ◌<◌, ◌≤◌, min, max, true, false, List, [], length, take, set, sym, refl, ap, ◌∙◌, subst, ⊎_elim, arith, length-set}
 use Rattle.std.proofs.lemmas.List.{get_or-set_same, get_or-set_other}
 use Rattle.std.proofs.lemmas.Bool.{cases_eq, lt-ltb}
 use Rattle.op.specs.declared.operation.Operation.{Operation}
@@ -71,7 +71,7 @@ module _ (n : ℕ) (s : State) (o : s.drafting ≡ true) (ln : n < s.sealed_coun
       (cases_eq m n)
 
   unused : (p : ℕ) → p < s.op_count → shape (op_at s p) ≡ Nesting n → ⊥
-  unused p l e = let f = (w.whole.flagged p n l e).1 in let z : ◌≡◌ {A = Bool} true false = cc in let y : ◌≡◌ {A = ℕ} 0 1 = cc in omega arith
+  unused p l e = let f = (w.whole.flagged p n l e).1 in cc
 
   once : Once (taken n (expression_at s n) s)
   once p q m l h e f = ⊎_elim

@@ -31,7 +31,7 @@ module _ (s : State) (w : Kept s) where
   -- what is still marked was marked, and no operation of the draft nests it
   was_marked : (m : ℕ) → (expression_at (withdrawn s) m).nested ≡ true → (expression_at s m).nested ≡ true
   was_marked m h = ⊎_elim (λ e. e)
-      (λ e. let f : (expression_at (withdrawn s) m).nested ≡ false = stays_all (draft s) s.expressions m e in let z : ◌≡◌ {A = ℕ} 0 1 = cc in absurd (omega arith))
+      (λ e. let f : (expression_at (withdrawn s) m).nested ≡ false = stays_all (draft s) s.expressions m e in absurd (cc))
       (cases_Bool (expression_at s m).nested)
 
   used : Used (withdrawn s)
@@ -43,7 +43,7 @@ module _ (s : State) (w : Kept s) where
       let li : q.0 - s.start < length (draft s) = omega arith in
       let f : (expression_at (withdrawn s) m).nested ≡ false =
       freed_all (draft s) s.expressions m (q.0 - s.start) (omega arith) li (ap shape (in_draft (q.0 - s.start) li ∙ ap (op_at s) i) ∙ q.2) in
-      let z : ◌≡◌ {A = ℕ} 0 1 = cc in absurd (omega arith))
+      absurd (cc))
       (cases_lt q.0 s.start))
 
   freed-roots : roots (take s.sealed_count (freed (draft s) s.expressions)) ≡ 266 * s.start + s.byte_start
@@ -72,7 +72,7 @@ module _ (s : State) (w : Kept s) where
     bytes_since = omega arith;
     sealed_within = c.sealed_within;
     table = length-freed (draft s) s.expressions ∙ c.table;
-    room = λ e. let z : ◌≡◌ {A = ℕ} 0 1 = cc in absurd (omega arith);
+    room = λ e. absurd (cc);
     idle = λ e. (refl, refl);
     light = λ k. subst (λ (e : Expression). e.weight ≤ 1155071) (sym (kept k)) (c.light k);
     shallow = λ k. subst (λ (e : Expression). e.depth ≤ 16) (sym (kept k)) (c.shallow k);

@@ -19,10 +19,6 @@ opened s = record { operations = s.operations; bytes = s.bytes; expressions = s.
 abbrev pub overwritten : List ℕ → ℕ → List ℕ → List ℕ
 overwritten xs at ys = take at xs ++ ys ++ drop (at + length ys) xs
 
--- more data
-abbrev pub stored : List ℕ → State → State
-stored bs s = record { operations = s.operations; bytes = overwritten s.bytes s.byte_count bs; expressions = s.expressions; op_count = s.op_count; byte_count = s.byte_count + length bs; sealed_count = s.sealed_count; start = s.start; byte_start = s.byte_start; drafting = s.drafting }
-
 -- one more operation, and its data
 abbrev pub pushed : Operation → List ℕ → State → State
 pushed x bs s = record { operations = slice_set s.operations s.op_count x; bytes = overwritten s.bytes s.byte_count bs; expressions = s.expressions; op_count = s.op_count + 1; byte_count = s.byte_count + length bs; sealed_count = s.sealed_count; start = s.start; byte_start = s.byte_start; drafting = s.drafting }

@@ -1,5 +1,6 @@
 -- What the book's rules ask of an operation.
-use Rattle.std.specs.Prelude.{ℕ, Bool, true, false, cond, List, [], ◌∷◌, Some, None, Option, nat_lt}
+use Rattle.std.specs.Prelude.{ℕ, Bool, true, false, cond, List, Some, None, Option, nat_lt}
+use Rattle.std.specs.List.{list_any}
 use Rattle.op.specs.declared.operation.Data.{Data}
 use Rattle.op.specs.declared.operation.DebugInfoRef.{DebugInfoRef}
 use Rattle.op.specs.declared.operation.DebugInfoRef.TheVariants.{Symbol, Entry}
@@ -125,8 +126,7 @@ unset (Nesting m) = false
 
 -- whether a branch among the operations has no target
 abbrev pub any_unset : List Operation → Bool
-any_unset [] = false
-any_unset (x ∷ xs) = cond (unset (shape x)) true (any_unset xs)
+any_unset xs = list_any (λ x. unset (shape x)) xs
 
 -- where the bytes of a raw operation lie
 abbrev pub raw_place : Operation → Option Data

@@ -1,7 +1,7 @@
 //! A sealed expression, as a book keeps it.
 
 /// Where an expression's operations lie, and what was measured when it was sealed.
-#[derive(Clone, Copy)]
+#[derive(Clone, Copy, Default)]
 pub struct Expression {
     /// The number of its first operation in the book.
     pub start: usize,

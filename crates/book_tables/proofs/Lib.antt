@@ -1,2 +1,2 @@
-pub mod Bytes
-pub mod Loops
+pub mod Gathered
+pub mod Rest

@@ -1,1 +1,3 @@
+pub mod Put
+pub mod Starts
 pub mod View

@@ -1,152 +1,118 @@
 //! Drafts, and what is added to them.
 
 ghost use Rattle.std.specs.Prelude.{◌≡◌, ◌+◌, ◌≤◌, true, [], length};
-ghost use Rattle.book_state.specs.Calls.{begun, raw_begun, added, branched, nested, target_set, pushed, stored};
-ghost use Rattle.book_state.specs.State.{fits};
-ghost use Rattle.book_state.specs.Whole.{Counted};
+ghost use Rattle.std.specs.Option.{is_some};
+ghost use Rattle.book_state.specs.Calls.{begun, raw_begun, added, branched, nested, target_set, overwritten};
+ghost use Rattle.book_tables.specs.Put.{put};
 ghost use Rattle.book_tables.specs.View.{view};
 
 use crate::operation::{aimed_at, entries_fit, is_unset};
-use crate::tables::Tables;
-use book_state::expression::Expression;
+use crate::tables::{DraftStart, Tables};
 use common::error::Error;
 use op::operation::Operation;
+
+/// Writes bytes over those of a table from a place on.
+fn overwrite(table: &mut [u8], at: usize, bytes: &[u8])
+    requires { at + length bytes.now ≤ length table.old }
+    ensures { table.new ≡ overwritten table.old at bytes.now }
+{
+    table[at..at + bytes.len()].copy_from_slice(bytes);
+}
 
 impl<'a> Tables<'a> {
     /// Opens a draft.
     pub fn begin(&mut self) -> Result<(), Error>
         ensures { begun (view self.old) ≡ (result, view self.new) }
     {
-        if self.drafting {
+        if self.draft.is_some() {
             return Err(Error::DraftState);
         }
         if self.sealed_count >= 1024 {
             return Err(Error::BookFull);
         }
-        self.start = self.op_count;
-        self.byte_start = self.byte_count;
-        self.drafting = true;
+        self.draft = Some(DraftStart {
+            start: self.op_count,
+            byte_start: self.byte_count,
+        });
         Ok(())
     }
 
     /// Opens a draft that begins with the given bytes.
     pub fn raw(&mut self, bytes: &[u8]) -> Result<(), Error>
-        requires { Counted (view self.old) }
         ensures { raw_begun bytes.now (view self.old) ≡ (result, view self.new) }
     {
-        if self.drafting {
-            return Err(Error::DraftState);
-        }
-        if self.sealed_count >= 1024 || !self.fits(bytes.len()) {
+        if self.draft.is_none() && !self.fits(bytes.len()) {
             return Err(Error::BookFull);
         }
+        self.begin()?;
         let data = self.place(bytes.len());
-        self.start = self.op_count;
-        self.byte_start = self.byte_count;
-        self.drafting = true;
-        self.put(Operation::Raw(data), bytes);
-        Ok(())
+        self.put(Operation::Raw(data), bytes)
     }
 
-    /// Writes data behind those in use.
-    fn store(&mut self, bytes: &[u8])
-        requires { self.old.byte_count + length bytes.now ≤ length self.old.bytes.now }
-        ensures { view self.new ≡ stored bytes.now (view self.old) }
+    /// Adds an operation and its data to the open draft, where they fit.
+    fn put(&mut self, op: Operation, bytes: &[u8]) -> Result<(), Error>
+        requires { is_some self.old.draft ≡ true }
+        ensures { put op bytes.now (view self.old) ≡ (result, view self.new) }
     {
-        let from = self.byte_count;
-        let to = from + bytes.len();
-        self.bytes[from..to].copy_from_slice(bytes);
-        self.byte_count = to;
-    }
-
-    /// Adds an operation and its data, which fit.
-    fn put(&mut self, op: Operation, bytes: &[u8])
-        requires counted { Counted (view self.old) }
-        requires room { fits (length bytes.now) (view self.old) ≡ true }
-        ensures { view self.new ≡ pushed op bytes.now (view self.old) }
-    {
-        self.store(bytes);
-        let n = self.op_count;
-        if let Some(count) = list::push(self.operations, n, op) {
+        if !self.fits(bytes.len()) {
+            return Err(Error::BookFull);
+        }
+        overwrite(self.bytes, self.byte_count, bytes);
+        self.byte_count += bytes.len();
+        if let Some(count) = list::push(self.operations, self.op_count, op) {
             self.op_count = count;
         }
+        Ok(())
     }
 
     /// Adds an operation and its data.
     pub fn add(&mut self, op: Operation, bytes: &[u8]) -> Result<(), Error>
-        requires { Counted (view self.old) }
         ensures { added op bytes.now (view self.old) ≡ (result, view self.new) }
     {
-        if !self.drafting {
-            return Err(Error::DraftState);
-        }
+        self.draft.ok_or(Error::DraftState)?;
         if !entries_fit(op) {
             return Err(Error::BadEntry);
         }
-        if !self.fits(bytes.len()) {
-            return Err(Error::BookFull);
-        }
-        self.put(op, bytes);
-        Ok(())
+        self.put(op, bytes)
     }
 
     /// Adds a branch without a target, and answers its number in the draft.
     pub fn add_branch(&mut self, op: Operation) -> Result<usize, Error>
-        requires { Counted (view self.old) }
         ensures { branched op (view self.old) ≡ (result, view self.new) }
     {
-        if !self.drafting {
-            return Err(Error::DraftState);
-        }
-        if !self.fits(0) {
-            return Err(Error::BookFull);
-        }
-        let branch = self.op_count - self.start;
-        self.put(op, &[]);
+        let draft = self.draft.ok_or(Error::DraftState)?;
+        let branch = self.op_count - draft.start;
+        self.put(op, &[])?;
         Ok(branch)
     }
 
     /// Adds an entry value of a sealed expression.
     pub fn add_nested(&mut self, number: usize) -> Result<(), Error>
-        requires { Counted (view self.old) }
         ensures { nested number (view self.old) ≡ (result, view self.new) }
     {
-        if !self.drafting {
-            return Err(Error::DraftState);
-        }
-        let Some(expression) = self.expression(number) else {
-            return Err(Error::NoExpression);
-        };
+        self.draft.ok_or(Error::DraftState)?;
+        let expression = self.expression(number).ok_or(Error::NoExpression)?;
         if expression.nested {
             return Err(Error::InUse);
         }
         if expression.depth >= 16 {
             return Err(Error::TooDeep);
         }
-        if !self.fits(0) {
-            return Err(Error::BookFull);
-        }
-        self.put(Operation::EntryValue(number), &[]);
-        self.expressions[number] = Expression {
-            nested: true,
-            ..expression
-        };
+        self.put(Operation::EntryValue(number), &[])?;
+        self.expressions[number].nested = true;
         Ok(())
     }
 
     /// Sets the target of a branch of the draft.
     pub fn set_target(&mut self, branch: usize, target: usize) -> Result<(), Error>
-        requires { Counted (view self.old) }
         ensures { target_set branch target (view self.old) ≡ (result, view self.new) }
     {
-        if !self.drafting {
-            return Err(Error::DraftState);
-        }
-        let count = self.op_count - self.start;
+        let draft = self.draft.ok_or(Error::DraftState)?;
+        let count = self.op_count - draft.start;
         if branch >= count {
             return Err(Error::BadTarget);
         }
-        let at = self.start + branch;
+        let at = draft.start + branch;
         let op = self.operations[at];
         if !is_unset(op) || target > count || target == branch {
             return Err(Error::BadTarget);

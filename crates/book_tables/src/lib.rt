@@ -3,6 +3,7 @@
 #![tactic(auto)]
 
 pub mod adding;
+mod draft;
 pub mod operation;
 pub mod questions;
 pub mod sealing;

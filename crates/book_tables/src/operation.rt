@@ -11,11 +11,9 @@ pub fn shape(op: Operation) -> Shape
     ensures { result ≡ shape_of op }
 {
     match op {
-        Operation::Raw(data) => Shape::Holding(data),
-        Operation::ConstantType(_, data) => Shape::Holding(data),
-        Operation::ImplicitValue(data) => Shape::Holding(data),
-        Operation::Skip(target) => Shape::Branching(target),
-        Operation::Branch(target) => Shape::Branching(target),
+        Operation::Raw(data) | Operation::ConstantType(_, data) | Operation::ImplicitValue(data) =>
+            Shape::Holding(data),
+        Operation::Skip(target) | Operation::Branch(target) => Shape::Branching(target),
         Operation::EntryValue(number) => Shape::Nesting(number),
         _ => Shape::Plain,
     }
@@ -25,10 +23,7 @@ pub fn shape(op: Operation) -> Shape
 pub fn is_unset(op: Operation) -> bool
     ensures { result ≡ unset (shape_of op) }
 {
-    match shape(op) {
-        Shape::Branching(None) => true,
-        _ => false,
-    }
+    matches!(shape(op), Shape::Branching(None))
 }
 
 /// The branch with its target; any other operation as it is.
@@ -57,23 +52,15 @@ pub fn entries_fit(op: Operation) -> bool
     ensures { result ≡ entries_fit op }
 {
     match op {
-        Operation::ConstantType(base, _) => entry_fits(base),
-        Operation::RegisterType(_, base) => entry_fits(base),
-        Operation::DerefType {
-            space: _,
-            size: _,
-            base,
-        } => entry_fits(base),
-        Operation::Call(entry) => entry_fits(entry),
-        Operation::CallRef(entry) => ref_fits(entry),
-        Operation::VariableValue(entry) => ref_fits(entry),
-        Operation::Convert(base) => base_fits(base),
-        Operation::Reinterpret(base) => base_fits(base),
-        Operation::ImplicitPointer {
-            entry,
-            byte_offset: _,
-        } => ref_fits(entry),
-        Operation::ParameterRef(entry) => entry_fits(entry),
+        Operation::ConstantType(entry, _)
+        | Operation::RegisterType(_, entry)
+        | Operation::DerefType { base: entry, .. }
+        | Operation::Call(entry)
+        | Operation::ParameterRef(entry) => entry_fits(entry),
+        Operation::CallRef(entry)
+        | Operation::VariableValue(entry)
+        | Operation::ImplicitPointer { entry, .. } => ref_fits(entry),
+        Operation::Convert(base) | Operation::Reinterpret(base) => base_fits(base),
         _ => true,
     }
 }
@@ -87,10 +74,7 @@ fn entry_fits(entry: usize) -> bool
 fn base_fits(base: Option<usize>) -> bool
     ensures { result ≡ base_fits base }
 {
-    match base {
-        Some(entry) => entry_fits(entry),
-        None => true,
-    }
+    base.is_none_or(entry_fits)
 }
 
 fn ref_fits(entry: DebugInfoRef) -> bool

@@ -4,7 +4,7 @@ ghost use Rattle.std.specs.Prelude.{◌≡◌, ◌<◌, length, IfSome};
 ghost use Rattle.std.specs.Option.{option_map};
 ghost use Rattle.book_state.specs.Calls.{next_index, as_raw};
 ghost use Rattle.book_state.specs.State.{sealed_at, expression_at, fits, place as place_of};
-ghost use Rattle.book_state.specs.Whole.{Counted, Whole};
+ghost use Rattle.book_state.specs.Whole.{Whole};
 ghost use Rattle.book_tables.specs.View.{view};
 
 use crate::operation::raw_place;
@@ -15,13 +15,11 @@ use op::operation::Data;
 impl<'a> Tables<'a> {
     /// The operation count of the open draft.
     pub fn next_index(&self) -> usize
-        requires { Counted (view self.now) }
         ensures { result ≡ next_index (view self.now) }
     {
-        if self.drafting {
-            self.op_count - self.start
-        } else {
-            0
+        match self.draft {
+            Some(draft) => self.op_count - draft.start,
+            None => 0,
         }
     }
 
@@ -35,7 +33,6 @@ impl<'a> Tables<'a> {
 
     /// Whether one more operation with `len` bytes of data fits.
     pub fn fits(&self, len: usize) -> bool
-        requires { Counted (view self.now) }
         ensures { result ≡ fits len (view self.now) }
     {
         let operations = self.operations.len().min(4096);
@@ -45,7 +42,6 @@ impl<'a> Tables<'a> {
 
     /// Where the next data come to lie.
     pub fn place(&self, len: usize) -> Data
-        requires { Counted (view self.now) }
         ensures { result ≡ place_of len (view self.now) }
     {
         Data {
@@ -64,7 +60,7 @@ impl<'a> Tables<'a> {
             return None;
         }
         let data = raw_place(self.operations[expression.start])?;
-        let start = data.start as usize;
-        Some(&self.bytes[start..start + data.len as usize])
+        let start = usize::from(data.start);
+        Some(&self.bytes[start..start + usize::from(data.len)])
     }
 }

@@ -1,5 +1,5 @@
 -- What an operation brings along, by what it refers to inside its book.
-use Rattle.std.proofs.Common.{◌≡◌, ℕ, zero, suc, ◌+◌, ◌<◌, ◌≤◌, true, false, List, [], ◌∷◌, map, length, get_or, drop, sym, refl, ap, ◌∙◌, subst, arith, length-drop}
+use Rattle.std.proofs.Common.{◌≡◌, ℕ, zero, suc, ◌+◌, ◌<◌, ◌≤◌, true, false, List, [], ◌∷◌, map, length, get_or, drop, sym, refl, ap, ◌∙◌, arith, length-drop}
 use Rattle.std.proofs.lemmas.List.{length-take-le}
 use Rattle.std.proofs.lemmas.Bool.{leb-true, ltb-true}
 use Rattle.op.specs.declared.operation.Data.{Data}
@@ -88,7 +88,3 @@ module _ (s : State) (w : Whole s) (k : ℕ) (there : k < s.sealed_count) where
 
   pub within_4096 : (expression_at s k).start + (expression_at s k).count ≤ 4096
   within_4096 = let a = w.ends k there in let b = w.counted.since in let d = w.counted.ops_within in omega arith
-
--- an operation that holds data in its book
-pub data_size : (s : State) (x : Operation) (d : Data) → shape x ≡ Holding d → InBook s (shape x) → length (tree.bytes_at (store_of s) d) ≡ d.len
-data_size s x d e h = data_length s d (subst (InBook s) e h)

@@ -1,14 +1,11 @@
 -- Sizes of operations in a row.
-use Rattle.std.proofs.Common.{◌≡◌, ℕ, ◌+◌, List, [], ◌∷◌, length, Ok, Err, Result, sym, refl, ap, ◌∙◌, add_assoc, arith}
+use Rattle.std.proofs.Common.{◌≡◌, ℕ, ◌+◌, List, [], ◌∷◌, Ok, Err, Result, sym, refl, ap, ◌∙◌, add_assoc, arith}
 use Rattle.common.specs.declared.encoding.Encoding.{Encoding}
 use Rattle.common.specs.declared.error.Error.{Error}
-use Rattle.dwarf.specs.Leb.{uleb}
-use Rattle.op.specs.declared.operation.Data.{Data}
 use Rattle.op.specs.declared.operation.Operation.{Operation}
-use Rattle.op.specs.declared.operation.Operation.TheVariants as op
 use Rattle.book_state.specs.State.{State}
-use Rattle.rules.specs.Results.{and_then, plus}
-use Rattle.rules.specs.Scope.{Scope, base_of}
+use Rattle.rules.specs.Results.{plus}
+use Rattle.rules.specs.Scope.{Scope}
 use Rattle.rules.specs.Sizes.{size_tree}
 use Rattle.rules.specs.Tree as tree
 use Rattle.book_tree.specs.Store.{store_of, tree_in, size_by, size_in}
@@ -47,19 +44,3 @@ module _ (e : Encoding) (s : Scope) (b : State) (xs : List Operation) (t : ℕ) 
   -- nothing is left
   pub size_all : xs ≡ [] → plus (Ok t) (rows_size e s b xs) ≡ r → Ok t ≡ r
   size_all p h = let z : t ≡ t + 0 = omega arith in ap Ok z ∙ (sym (ap (λ y. plus (Ok t) (rows_size e s b y)) p) ∙ h)
-
--- operations that hold data, as many as they say
-module _ (e : Encoding) (s : Scope) (b : State) (x : Operation) (d : Data) (l : length (tree.bytes_at (store_of b) d) ≡ d.len) where
-  pub raw_size : x ≡ op.Raw d → Ok d.len ≡ size_in e s b x
-  raw_size p = ap Ok (sym l) ∙ ap (size_in e s b) (sym p)
-
-  pub constant_type_size : (base n k : ℕ) → x ≡ op.ConstantType base d → Ok n ≡ base_of s base → k ≡ length (uleb n) → Ok (1 + k + 1 + d.len) ≡ size_in e s b x
-  constant_type_size base n k p h q =
-      let bs = tree.bytes_at (store_of b) d in
-      let a : 1 + k + 1 + d.len ≡ 1 + (length (uleb n) + (1 + length bs)) = omega arith in
-      ap Ok a ∙ (ap (λ r. and_then r (λ m. Ok (1 + (length (uleb m) + (1 + length bs))))) h ∙ ap (size_in e s b) (sym p))
-
-  pub implicit_value_size : (k : ℕ) → x ≡ op.ImplicitValue d → k ≡ length (uleb d.len) → Ok (1 + k + d.len) ≡ size_in e s b x
-  implicit_value_size k p q =
-      let a : 1 + k + d.len ≡ 1 + (length (uleb d.len) + d.len) = omega arith in
-      ap Ok a ∙ (ap (λ n. Ok (1 + (length (uleb n) + n))) (sym l) ∙ ap (size_in e s b) (sym p))

@@ -1,5 +1,5 @@
 -- The tree of a sealed expression, operation by operation: no level is cut off.
-use Rattle.std.proofs.Common.{◌≡◌, ℕ, zero, suc, ◌+◌, ◌<◌, ◌≤◌, max, List, [], ◌∷◌, length, get_or, drop, sym, refl, ap, ◌∙◌, subst, arith}
+use Rattle.std.proofs.Common.{◌≡◌, ℕ, zero, suc, ◌+◌, ◌<◌, ◌≤◌, max, List, [], ◌∷◌, length, get_or, drop, sym, refl, ap, ◌∙◌, subst, arith, add-one, drop-cons}
 use Rattle.op.specs.declared.operation.Operation.{Operation}
 use Rattle.book_state.specs.declared.shape.Shape.{Shape}
 use Rattle.book_state.specs.declared.shape.Shape.TheVariants.{Plain, Holding, Branching, Nesting}
@@ -8,8 +8,8 @@ use Rattle.book_state.specs.State.{State, op_at, no_operation, expression_at, op
 use Rattle.book_state.specs.Whole.{Whole}
 use Rattle.book_state.proofs.Slices.{length-slice, slice_at, slice_more, slice_all}
 use Rattle.rules.specs.Tree as tree
-use Rattle.book_tree.specs.Store.{store_of, tree_in}
-use Rattle.book_tree.proofs.Shapes.{brought, shape_is, row_at, nested_before, within}
+use Rattle.book_tree.specs.Store.{InBook, store_of, tree_in}
+use Rattle.book_tree.proofs.Shapes.{brought, shape_is, row_at, inside_book, nested_before, within}
 
 -- two ways to give nested trees that agree where operations nest
 grow_same : (f g : ℕ → tree.Tree) (b : tree.Store) (x : Operation) (h : Shape) (t : tree.Tree) → ((m : ℕ) → h ≡ Nesting m → f m ≡ g m) →
@@ -96,3 +96,30 @@ module _ (s : State) (w : Whole s) where
 
   pub operations_all : (k i : ℕ) → k < s.sealed_count → (expression_at s k).count ≤ i → drop i (operations_of s k) ≡ []
   operations_all k i there l = slice_all s.operations (expression_at s k).start (expression_at s k).count (within s w k there) i l
+
+  -- the operations of an expression, gone over as a list: each stands in the book where the expression has it
+  module _ (k : ℕ) (there : k < s.sealed_count) (xs : List Operation) (are : xs ≡ operations_of s k) where
+    pub items_rows : tree_in s k ≡ tree.rows (tree_in s) (store_of s) xs
+    items_rows = tree_is k there ∙ ap (tree.rows (tree_in s) (store_of s)) (sym are)
+
+    pub items_count : length xs ≡ (expression_at s k).count
+    items_count = ap length are ∙ length_operations k there
+
+    module _ (i : ℕ) (l : i < length xs) where
+      pub item_counted : i < (expression_at s k).count
+      item_counted = let n = items_count in omega arith
+
+      pub item_at : get_or xs i no_operation ≡ op_at s ((expression_at s k).start + i)
+      item_at = ap (λ (ys : List Operation). get_or ys i no_operation) are ∙ operation_at k i item_counted
+
+      pub item_inside : InBook s (shape (get_or xs i no_operation))
+      item_inside = subst (λ (x : Operation). InBook s (shape x)) (sym item_at) (inside_book s w k there i item_counted)
+
+      pub item_depth : depth_by s.expressions (shape (get_or xs i no_operation)) ≤ (expression_at s k).depth
+      item_depth = subst (λ (x : Operation). depth_by s.expressions (shape x) ≤ (expression_at s k).depth) (sym item_at) (depth_at k i there item_counted)
+
+      pub item_then : drop i xs ≡ get_or xs i no_operation ∷ drop (i + 1) xs
+      item_then = rw (add-one, drop-cons xs i no_operation l) refl
+
+      pub item_next : drop i xs ≡ op_at s ((expression_at s k).start + i) ∷ drop (i + 1) xs
+      item_next = item_then ∙ ap (λ (x : Operation). x ∷ drop (i + 1) xs) item_at

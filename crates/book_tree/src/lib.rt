@@ -1,3 +1,5 @@
-//! The expressions of a book as trees: definitions and proofs.
+//! The expressions of a book, to be read, and as trees: definitions and proofs.
 
 #![tactic(auto)]
+
+pub mod reading;

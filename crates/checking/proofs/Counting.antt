@@ -1,40 +1,28 @@
 -- The references of one operation.
-use Rattle.std.proofs.Common.{◌≡◌, ℕ, ◌+◌, ◌<◌, ◌≤◌, ◌⊎◌, List, [], length, get_or, drop, ℤ, pos, IfOk, Ok, Err, Option, Result, sym, refl, ap, ◌∙◌, ⊎_elim, arith}
+use Rattle.std.proofs.Common.{◌≡◌, ℕ, ◌+◌, ◌<◌, ◌≤◌, ◌⊎◌, List, [], length, get_or, ℤ, pos, IfOk, Ok, Err, Option, Result, sym, refl, ap, ◌∙◌, subst, ⊎_elim, arith}
 use Rattle.common.specs.declared.encoding.Encoding.{Encoding}
 use Rattle.common.specs.declared.error.Error.{Error}
-use Rattle.dwarf.specs.Tokens.{Tokens, done, code, displacement, nested}
+use Rattle.dwarf.specs.Tokens.{Tokens, done, code, displacement}
 use Rattle.op.specs.declared.operation.Operation.{Operation}
 use Rattle.op.specs.declared.operation.Operation.TheVariants as op
 use Rattle.book_state.specs.Operations.{shape}
-use Rattle.book_state.specs.State.{State, data_by, op_at, expression_at, operations_of}
+use Rattle.book_state.specs.State.{State, data_by, op_at, expression_at}
 use Rattle.book_state.specs.Whole.{Whole}
 use Rattle.book_tree.specs.Store.{store_of, tree_in, InBook, size_in}
 use Rattle.book_tree.proofs.Shapes.{data_length}
-use Rattle.book_tree.proofs.Trees.{tree_is, operations_more, length_operations}
-use Rattle.positions.proofs.Starts.{next_start}
-use Rattle.rules.specs.Encode.{encode_op, encode_tree, starts}
-use Rattle.rules.specs.Operands.{by_version, displaced}
+use Rattle.positions.proofs.Reading.{next_at}
+use Rattle.rules.specs.Encode.{encode_op, starts}
+use Rattle.rules.specs.Operands.{displaced}
 use Rattle.rules.specs.Results.{and_then, amount}
 use Rattle.rules.specs.Scope.{Scope}
 use Rattle.rules.specs.Tree as tree
-use Rattle.checking.specs.Counts.{tally, counted, encode_by}
+use Rattle.checking.specs.Counts.{tally, counted, encode_by, encode_at}
 
 pub made_le : (r : Result ℕ Error) (m n : ℕ) → m ≤ n → IfOk r (λ k. k ≤ m) → IfOk r (λ k. k ≤ n)
 made_le (Ok k) m n l h = omega arith
 made_le (Err z) m n l h = tt
 
-in_block : (c : ℕ) (t : Result Tokens Error) → counted t ≡ counted (and_then t (λ a. Ok (code c (nested a done))))
-in_block c (Ok a) = let z : tally a ≡ tally a + 0 = omega arith in ap Ok z
-in_block c (Err z) = refl
-
 module _ (e : Encoding) (s : Scope) (b : State) (hs : List ℕ) (p : ℕ) (x : Operation) where
-  -- an expression's references are those of the entry value that holds it
-  pub nested-count : (m : ℕ) → x ≡ op.EntryValue m → (r : Result ℕ Error) →
-      r ≡ counted (encode_tree e s (starts e s 0 (tree_in b m)) 0 (tree_in b m)) → r ≡ counted (encode_by e s hs p (tree_in b) (tree.shape (store_of b) x))
-  nested-count m q r h =
-      h ∙ (in_block (by_version e 0xa3 0xf3) (encode_tree e s (starts e s 0 (tree_in b m)) 0 (tree_in b m))
-      ∙ sym (ap (λ o. counted (encode_by e s hs p (tree_in b) (tree.shape (store_of b) o))) q))
-
   -- a branch has none
   drops : (d : Result ℤ Error) (f : ℤ → Tokens) → ((z : ℤ) → tally (f z) ≡ 0) → and_then d (λ z. Ok 0) ≡ counted (and_then d (λ z. Ok (f z)))
   drops (Ok z) f h = ap Ok (sym (h z))
@@ -66,12 +54,19 @@ pub after_three : (e : Encoding) (s : Scope) (b : State) (w : Whole b) (k i : �
     (op_at b ((expression_at b k).start + i) ≡ op.Skip t) ⊎ (op_at b ((expression_at b k).start + i) ≡ op.Branch t) →
     get_or (starts e s 0 (tree_in b k)) (i + 1) 0 ≡ get_or (starts e s 0 (tree_in b k)) i 0 + 3
 after_three e s b w k i t there l q =
-    let x = op_at b ((expression_at b k).start + i) in
-    let n = length_operations b w k there in
-    let ts = tree_is b w k there in
-    let nx = next_start e s b i 0 (operations_of b k) (drop (i + 1) (operations_of b k)) x (omega arith) (operations_more b w k i there l) in
-    ap (λ y. get_or (starts e s 0 y) (i + 1) 0) ts
-    ∙ (nx ∙ (sym (ap (λ y. get_or (starts e s 0 y) i 0 + amount (size_in e s b x)) ts) ∙ ap (λ (m : ℕ). get_or (starts e s 0 (tree_in b k)) i 0 + m) (three e s b x t q)))
+    next_at e s b w k there i l
+    ∙ ap (λ (m : ℕ). get_or (starts e s 0 (tree_in b k)) i 0 + m) (three e s b (op_at b ((expression_at b k).start + i)) t q)
+
+-- a branch sets no reference down, and is refused where its displacement is
+pub branch-counted : (e : Encoding) (s : Scope) (b : State) (w : Whole b) (k i : ℕ) → k < b.sealed_count → i < (expression_at b k).count →
+    (x : Operation) → x ≡ op_at b ((expression_at b k).start + i) → (t : Option ℕ) → (x ≡ op.Skip t) ⊎ (x ≡ op.Branch t) →
+    (d : Result ℤ Error) → d ≡ displaced (starts e s 0 (tree_in b k)) (get_or (starts e s 0 (tree_in b k)) (i + 1) 0) t →
+    and_then d (λ z. Ok 0) ≡ counted (encode_at e s b k i)
+branch-counted e s b w k i there l x here t q d h =
+    let hs = starts e s 0 (tree_in b k) in
+    let y = op_at b ((expression_at b k).start + i) in
+    let p : (y ≡ op.Skip t) ⊎ (y ≡ op.Branch t) = subst (λ (z : Operation). (z ≡ op.Skip t) ⊎ (z ≡ op.Branch t)) here q in
+    branching_count e s b hs (get_or hs i 0) y t (get_or hs (i + 1) 0) d p (after_three e s b w k i t there l p) h
 
 -- what is neither an entry value nor a branch counts by itself
 abbrev Counts : Encoding → Scope → Operation → Result ℕ Error → Type 0

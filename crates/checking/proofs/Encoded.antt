@@ -1,5 +1,5 @@
 -- Operations in a row are encoded one after another.
-use Rattle.std.proofs.Common.{◌≡◌, ℕ, ◌+◌, List, [], ◌∷◌, Ok, Err, Result, sym, refl, ap, ◌∙◌, arith}
+use Rattle.std.proofs.Common.{◌≡◌, ℕ, ◌+◌, List, ◌∷◌, Ok, Err, Result, sym, refl, ap, ◌∙◌, arith}
 use Rattle.common.specs.declared.encoding.Encoding.{Encoding}
 use Rattle.common.specs.declared.error.Error.{Error}
 use Rattle.dwarf.specs.Bytes.{joined}
@@ -74,6 +74,3 @@ module _ (e : Encoding) (s : Scope) (b : State) (hs : List ℕ) (p : ℕ) (xs : 
   count_stop x ys z q k h =
       let rest = counted (rows_encode e s b hs (p + amount (size_in e s b x)) ys) in
       ap (λ y. plus (Ok t) (plus y rest)) k ∙ (ap (plus (Ok t)) (sym (counted_more x ys q)) ∙ h)
-
-  pub count_all : xs ≡ [] → plus (Ok t) (counted (rows_encode e s b hs p xs)) ≡ r → Ok t ≡ r
-  count_all q h = let z : t ≡ t + 0 = omega arith in ap Ok z ∙ (sym (ap (λ l. plus (Ok t) (counted (rows_encode e s b hs p l))) q) ∙ h)

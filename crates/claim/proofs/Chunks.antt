@@ -1,5 +1,6 @@
 -- Pieces of a section one after the other: their bytes, sizes and references.
 use Rattle.std.proofs.Common.{◌≡◌, ℕ, ◌+◌, ◌<◌, ◌≤◌, Bool, List, [], ◌∷◌, ◌++◌, length, take, drop, sym, refl, ap, ◌∙◌, subst, ap₂, inl, inr, append_assoc, add_assoc, arith, length-append, take_at, drop_at}
+use Rattle.std.specs.List.{AllByRecursion}
 use Rattle.common.specs.declared.fixup.DebugInfoFixup.{DebugInfoFixup}
 use Rattle.dwarf.specs.Fixed.{fixed_bytes}
 use Rattle.dwarf.specs.Tokens.{Tokens}
@@ -35,18 +36,13 @@ set_down_append at (c ∷ cs) ys = rw (set_down_append (at + size_of (content c)
 
 -- every reference in the pieces has a byte at least
 abbrev pub AllWide : List Chunk → Type 0
-AllWide [] = Unit {0}
-AllWide (c ∷ cs) = Wide (content c) × AllWide cs
+AllWide = AllByRecursion (λ c. Wide (content c))
 
-pub all_wide_append : (xs ys : List Chunk) → AllWide xs → AllWide ys → AllWide (xs ++ ys)
-all_wide_append [] ys a b = b
-all_wide_append (c ∷ cs) ys a b = (a.0, all_wide_append cs ys a.1 b)
-
-pub all_wide_first : (xs ys : List Chunk) → AllWide (xs ++ ys) → AllWide xs
+all_wide_first : (xs ys : List Chunk) → AllWide (xs ++ ys) → AllWide xs
 all_wide_first [] ys a = tt
 all_wide_first (c ∷ cs) ys a = (a.0, all_wide_first cs ys a.1)
 
-pub all_wide_second : (xs ys : List Chunk) → AllWide (xs ++ ys) → AllWide ys
+all_wide_second : (xs ys : List Chunk) → AllWide (xs ++ ys) → AllWide ys
 all_wide_second [] ys a = a
 all_wide_second (c ∷ cs) ys a = all_wide_second cs ys a.1
 

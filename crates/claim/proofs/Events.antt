@@ -98,7 +98,7 @@ module _ (s : State) where
 
   is_none : (o : Option ℕ) → is_some o ≡ false → o ≡ None
   is_none None h = refl
-  is_none (Some a) h = let z : ◌≡◌ {A = ℕ} 0 1 = cc in absurd (omega arith)
+  is_none (Some a) h = absurd cc
 
   sound_placing : (entry : ℕ) → Sound s (placing s entry)
   sound_placing entry =

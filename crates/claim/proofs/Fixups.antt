@@ -1,6 +1,6 @@
 -- Lists of references: those that a test keeps, the first at an offset, and their order.
 use Rattle.std.proofs.Common.{◌≡◌, ℕ, ◌+◌, ◌<◌, ◌≤◌, Bool, true, false, cond, not, ◌&&◌, eqb, leb, List, [], ◌∷◌, ◌++◌, length, Some, sym, refl, ap, ◌∙◌, inl, inr, arith}
-use Rattle.std.proofs.lemmas.Bool.{ne_eqb, eqb-true, le-leb}
+use Rattle.std.proofs.lemmas.Bool.{and_parts, ne_eqb, eqb-true, le-leb}
 use Rattle.common.specs.declared.fixup.DebugInfoFixup.{DebugInfoFixup}
 use Rattle.dwarf.specs.Leb.{uleb, sleb}
 use Rattle.dwarf.specs.Tokens.{Tokens, done, code, unsigned, signed, fixed, displacement, block, short, nested, reference, raw}
@@ -53,7 +53,7 @@ keep_more f g k (x ∷ xs) h = rw (h x) (go (f x) (g x) refl (keep_more f g k xs
 
 pub first_in : (test : DebugInfoFixup → Bool) (xs : List DebugInfoFixup) (p : DebugInfoFixup) → first_of test xs ≡ Some p → In p xs × (test p ≡ true)
 unfolding first_of
-first_in test [] p h = let z : ◌≡◌ {A = ℕ} 0 1 = cc in absurd (omega arith)
+first_in test [] p h = absurd cc
 first_in test (x ∷ xs) p h = go (test x) refl h (first_in test xs p)
   where
     go : (b : Bool) → test x ≡ b → cond b (Some x) (first_of test xs) ≡ Some p → (first_of test xs ≡ Some p → In p xs × (test p ≡ true))
@@ -63,11 +63,7 @@ first_in test (x ∷ xs) p h = go (test x) refl h (first_in test xs p)
 
 -- a reference that stands at an offset has it
 pub stands_offset : (size offset : ℕ) (p : DebugInfoFixup) → stands_at size offset p ≡ true → p.offset ≡ offset
-stands_offset size offset p h = go (eqb p.offset offset) refl h
-  where
-    go : (b : Bool) → eqb p.offset offset ≡ b → (b && leb (p.offset + p.width) size) ≡ true → p.offset ≡ offset
-    go true e k = eqb-true p.offset offset e
-    go false e k = let z : ◌≡◌ {A = ℕ} 0 1 = cc in absurd (omega arith)
+stands_offset size offset p h = eqb-true p.offset offset (and_parts (eqb p.offset offset) (leb (p.offset + p.width) size) h).0
 
 -- references lie one behind the other
 pub rising_less : (at less : ℕ) (xs : List DebugInfoFixup) → less ≤ at → Rising at xs → Rising less xs

@@ -1,5 +1,5 @@
 -- The size that is asked for just before a write is the number of bytes that it adds.
-use Rattle.std.proofs.Common.{◌≡◌, ℕ, ◌+◌, Bool, true, false, not, ltb, length, Some, None, Ok, Err, Option, Result, sym, refl, ap, ◌∙◌, arith}
+use Rattle.std.proofs.Common.{◌≡◌, ℕ, ◌+◌, Bool, true, false, not, ltb, length, Some, None, Ok, Err, Option, Result, sym, refl, ap, ◌∙◌}
 use Rattle.common.specs.declared.encoding.Encoding.{Encoding}
 use Rattle.common.specs.declared.error.Error.{Error}
 use Rattle.common.specs.declared.error.Error.TheVariants.{NoRoom, TooManyReferences, NoUnit, NoExpression}
@@ -18,7 +18,7 @@ use Rattle.claim.proofs.Encoded.{accepted}
 
 -- a refusal is no number
 no_number : (P : Type 0) (e : Error) (n : ℕ) → refusal e ≡ number n → P
-no_number P e n h = let z : ◌≡◌ {A = ℕ} 0 1 = cc in absurd (omega arith)
+no_number P e n h = absurd cc
 
 -- an accepted step was not refused by its test
 passed : (P : Type 0) (test : Bool) (e : Error) (ev : Event) (n : ℕ) → answer (refused_if test e ev) ≡ number n → (answer ev ≡ number n → P) → P

@@ -1,5 +1,5 @@
 -- What is encoded of a readable expression is well formed.
-use Rattle.std.proofs.Common.{◌≡◌, ℕ, ◌+◌, ◌^◌, ◌<◌, ◌≤◌, Bool, true, false, cond, ◌||◌, ltb, leb, List, [], ◌∷◌, ℤ, pos, negsuc, ◌-ℤ◌, Some, None, Ok, Err, Option, Result, refl, arith}
+use Rattle.std.proofs.Common.{◌≡◌, ℕ, ◌+◌, ◌^◌, ◌<◌, ◌≤◌, Bool, true, false, cond, ltb, leb, List, [], ◌∷◌, ℤ, pos, negsuc, ◌-ℤ◌, Some, None, Ok, Err, Option, Result, refl, arith}
 use Rattle.std.proofs.lemmas.Bool.{false≢true, and_parts, and_from, or_left, or_right, ltb-true, le-leb}
 use Rattle.common.specs.Formats.{word_size}
 use Rattle.common.specs.declared.encoding.Encoding.{Encoding}
@@ -37,6 +37,7 @@ use Rattle.rules.specs.Scope.{Scope, base_of, base_or_generic}
 use Rattle.rules.specs.Sizes.{size_tree, extent_op, extent_nested}
 use Rattle.rules.specs.Tree.{Tree, end, plain, nest}
 use Rattle.rules.proofs.Results.{not_refused, value_is, first_step, last_step}
+use Rattle.std.proofs.Math.Bool.{or-false}
 use Rattle.rules.proofs.Rows.{Rows, by_rows}
 use Rattle.claim.specs.Fits.{FitsOperation, Fits}
 
@@ -58,12 +59,8 @@ displaced-fits hs after target z h =
     go to false e k = not_refused (magnitude z < 2 ^ 15) ValueTooLarge z k
 
 -- codes without operands
-or_false : (x : Bool) → (x || false) ≡ x
-or_false true = refl
-or_false false = refl
-
 bare_plain : (c : ℕ) → among bare_codes c ≡ true → is_plain c ≡ true
-bare_plain c h = rw (or_false (within 0x9f 0x9f c)) at h
+bare_plain c h = rw (or-false (within 0x9f 0x9f c)) at h
 
 literal_plain : (c : ℕ) → 0x30 ≤ c → c ≤ 0x6f → is_plain c ≡ true
 literal_plain c a b =
@@ -73,7 +70,7 @@ literal_plain c a b =
 in_range : (a z c : ℕ) → a ≤ c → c ≤ z → within a z c ≡ true
 in_range a z c l m = and_from (leb a c) (leb c z) (le-leb a c l) (le-leb c z m)
 
-word_width : (f : Format) → is_width (word_size f) ≡ true
+pub word_width : (f : Format) → is_width (word_size f) ≡ true
 word_width Dwarf32 = refl
 word_width Dwarf64 = refl
 

@@ -1,6 +1,7 @@
 -- What holds between a section at first, the section now, and what the calls between have laid down and filled.
 use Rattle.std.proofs.Common.{◌≡◌, ℕ, zero, suc, ◌+◌, ◌^◌, ◌<◌, ◌≤◌, Bool, true, false, cond, not, eqb, List, [], ◌∷◌, ◌++◌, length, Some, sym, refl, ap, ◌∙◌, subst, inl, inr, append_assoc, append-nil, pow-suc, arith, length-append}
 use Rattle.std.proofs.lemmas.Bool.{cases_eq, eq-eqb, ne_eqb, not-true}
+use Rattle.std.proofs.ByRecursion.{All-push}
 use Rattle.common.specs.declared.fixup.DebugInfoFixup.{DebugInfoFixup}
 use Rattle.dwarf.specs.Fixed.{fixed_bytes}
 use Rattle.dwarf.specs.Tokens.{Tokens}
@@ -14,7 +15,7 @@ use Rattle.claim.specs.Calls.{stands_at, without_first}
 use Rattle.claim.specs.History.{Chunk, content, Fill, numbers, closed, layout, sizes, set_down, keep}
 use Rattle.claim.specs.Claim.{Rising, Within, Once, FilledBy}
 use Rattle.claim.proofs.Fixups.{keep_append, keep_all, in_keep, keep_more, rising_keep, rising_less, unique, all_within, without_keep}
-use Rattle.claim.proofs.Chunks.{length-layout, layout-append, sizes-append, set_down_append, AllWide, all_wide_append, set_down_inside, set_down_wide, set_down_rising, layout-patched}
+use Rattle.claim.proofs.Chunks.{length-layout, layout-append, sizes-append, set_down_append, AllWide, set_down_inside, set_down_wide, set_down_rising, layout-patched}
 
 pub power_positive : (width : ℕ) → 0 < 256 ^ width
 power_positive zero = omega arith
@@ -95,7 +96,7 @@ module _ {bs : List ℕ} {big : Bool} {bytes : List ℕ} {units : List UnitOffse
       record {
         told = grown_bytes i c w;
         left = grown-left i c;
-        wide = all_wide_append cs (c ∷ []) i.wide (w, tt);
+        wide = All-push (λ c. Wide (content c)) cs c i.wide w;
         fresh = λ x h. i.fresh x (omega (arith, sizes-append cs (c ∷ [])));
         zeros = i.zeros;
         fits = grown-fits i c;
@@ -187,7 +188,7 @@ module _ {bs : List ℕ} {big : Bool} {bytes : List ℕ} {units : List UnitOffse
   filled_zeros x h = go (eqb x p.offset) h
     where
       go : (b : Bool) → cond b true (closed fs x) ≡ false → cond b n (numbers fs x) ≡ 0
-      go true e = let z : ◌≡◌ {A = ℕ} 0 1 = cc in absurd (omega arith)
+      go true e = absurd cc
       go false e = i.zeros x e
 
   filled-fits : (r : DebugInfoFixup) → In r (set_down (length bs) cs) → numbers fs' r.offset < 256 ^ r.width

@@ -37,6 +37,8 @@ use Rattle.claim.specs.Calls.{
 use Rattle.claim.specs.History.{Chunk, plain_bytes, expression, content, laid_by, laid, Fill, filled_by, fills, numbers, closed, layout, sizes, set_down, keep}
 use Rattle.claim.specs.Fits.{Fits}
 use Rattle.claim.proofs.Units.{begun, kept_by_unit, of_more_units, kept_by_entry, of_more_entries}
+use Rattle.std.specs.List.{AllByRecursion}
+use Rattle.std.proofs.ByRecursion.{All-push}
 use Rattle.claim.proofs.Invariant.{Invariant, long, grown, units_more, filled_more}
 use Rattle.claim.proofs.Formed.{Low}
 use Rattle.claim.proofs.Encoded.{Encoded}
@@ -48,12 +50,7 @@ Good (plain_bytes bytes) = Unit {0}
 Good (expression w) = Encoded w × (readable w.tree ≡ true → Fits w.tree → WellFormed w.encoding [] w.tokens)
 
 abbrev pub AllGood : List Chunk → Type 0
-AllGood [] = Unit {0}
-AllGood (c ∷ cs) = Good c × AllGood cs
-
-good_append : (xs : List Chunk) (c : Chunk) → AllGood xs → Good c → AllGood (xs ++ (c ∷ []))
-good_append [] c a b = (b, tt)
-good_append (x ∷ xs) c a b = (a.0, good_append xs c a.1 b)
+AllGood = AllByRecursion Good
 
 pub good_at : (xs : List Chunk) (c : Chunk) (ys : List Chunk) → AllGood (xs ++ (c ∷ ys)) → Good c
 good_at [] c ys a = a.0
@@ -75,13 +72,13 @@ unfolding entry_offset
 unit_low s low entry n h = go (place_of (last_unit s) entry) refl h
   where
     go : (o : Option ℕ) → place_of (last_unit s) entry ≡ o → from_start (last_unit s).start o ≡ Ok n → n < 2 ^ 64
-    go None e k = let z : ◌≡◌ {A = ℕ} 0 1 = cc in absurd (omega arith)
+    go None e k = absurd cc
     go (Some m) e k =
         let l : m < 2 ^ 64 = low (last_number s) entry m e in
         let same : m - (last_unit s).start ≡ n = cc in omega arith
 
 frame_low : Low in_frame
-frame_low entry n h = let z : ◌≡◌ {A = ℕ} 0 1 = cc in absurd (omega arith)
+frame_low entry n h = absurd cc
 
 module _ (s₀ s : State) {cs : List Chunk} {fs : List Fill} (i : Holds s₀ s cs fs) where
   -- bytes more
@@ -105,7 +102,7 @@ module _ (s₀ s : State) {cs : List Chunk} {fs : List Fill} (i : Holds s₀ s c
         bounded = i.bounded;
         within = rw (length-append s.bytes bytes) (omega arith);
         low = i.low;
-        good = good_append cs (plain_bytes bytes) i.good tt;
+        good = All-push Good cs (plain_bytes bytes) i.good tt;
       }
 
   hold_placed : (unit entry offset : ℕ) → Sound s (placed unit entry offset) → Holds s₀ (after s (placed unit entry offset)) cs fs
@@ -138,7 +135,7 @@ module _ (s₀ s : State) {cs : List Chunk} {fs : List Fill} (i : Holds s₀ s c
 
   expression_good : (w : Written) → Encoded w → length s.bytes + size_of w.tokens ≤ s.capacity → Low w.scope
       → AllGood (cs ++ (expression w ∷ []))
-  expression_good w f h l = let b = i.bounded in good_append cs (expression w) i.good (f, λ r t. f.formed r t l (omega arith))
+  expression_good w f h l = let b = i.bounded in All-push Good cs (expression w) i.good (f, λ r t. f.formed r t l (omega arith))
 
   hold_wrote : (w : Written) → Sound s (wrote w) → Holds s₀ (after s (wrote w)) (cs ++ (expression w ∷ [])) fs
   unfolding after

@@ -1,5 +1,5 @@
 -- All that is told of a section holds of it.
-use Rattle.std.proofs.Common.{◌≡◌, ℕ, ◌+◌, ◌^◌, ◌<◌, Bool, true, false, cond, eqb, List, [], ◌∷◌, ◌++◌, length, take, drop, Some, sym, refl, ap, ◌∙◌, subst, inl, inr, arith, drop_at}
+use Rattle.std.proofs.Common.{◌≡◌, ℕ, ◌+◌, ◌^◌, ◌<◌, Bool, true, false, cond, eqb, List, [], ◌∷◌, ◌++◌, length, take, drop, Some, sym, refl, ap, ◌∙◌, subst, inl, inr, drop_at}
 use Rattle.std.proofs.lemmas.Bool.{eqb-true}
 use Rattle.common.specs.declared.fixup.DebugInfoFixup.{DebugInfoFixup}
 use Rattle.dwarf.specs.Reader.{and_then, ReadsBack}
@@ -38,7 +38,7 @@ number_reads big bytes p n l s =
 -- a fill that closed the reference at an offset
 closing : (offset : ℕ) (fs : List Fill) → closed fs offset ≡ true → (p : DebugInfoFixup) × (n : ℕ) × FilledBy p n fs × (p.offset ≡ offset)
 unfolding closed
-closing offset [] h = let z : ◌≡◌ {A = ℕ} 0 1 = cc in absurd (omega arith)
+closing offset [] h = absurd cc
 closing offset (f ∷ fs) h = go (eqb offset f.place.offset) refl h (closing offset fs)
   where
     go : (b : Bool) → eqb offset f.place.offset ≡ b → cond b true (closed fs offset) ≡ true

@@ -1,6 +1,7 @@
 -- The offsets of entries: those that are placed stay, whatever units begin and whatever else is placed.
-use Rattle.std.proofs.Common.{◌≡◌, ℕ, ◌<◌, ◌≤◌, Bool, true, false, cond, ltb, ◌⊎◌, List, [], ◌∷◌, ◌++◌, length, get_or, set, replicate, Some, None, Option, sym, refl, ap, ◌∙◌, subst, inl, inr, arith, length-append, length-set, get_or-set_other, get_or-set_same}
-use lib.ListN.{get_or-append, get_or-eq_default, get_or-replicate, length-replicate}
+use Rattle.std.proofs.Common.{◌≡◌, ℕ, ◌<◌, Bool, true, false, cond, ltb, ◌⊎◌, List, [], ◌∷◌, ◌++◌, length, get_or, set, replicate, Some, None, Option, sym, refl, ap, ◌∙◌, subst, inl, inr, arith, length-append, length-set, get_or-set_other, get_or-set_same}
+use lib.ListN.{get_or-append, get_or-replicate, length-replicate}
+use Rattle.std.proofs.lemmas.List.{get_or_past}
 use lib.Seq.{get_or-append_seam}
 use Rattle.std.proofs.lemmas.Bool.{cases_eq, cases_lt, lt-ltb}
 use Rattle.common.specs.declared.encoding.Encoding.{Encoding}
@@ -8,10 +9,7 @@ use Rattle.unit.specs.declared.UnitOffsets.{UnitOffsets}
 use Rattle.claim.specs.Section.{no_unit, unit_at, entry_offset, fresh_unit, with_entry, placed_in}
 
 some_none : {A : Type 0} (P : Type 0) (a : A) (o : Option A) → o ≡ None → o ≡ Some a → P
-some_none P a o e f = let z : ◌≡◌ {A = ℕ} 0 1 = cc in absurd (omega arith)
-
-past : {A : Type 0} (l : List A) (d : A) (k : ℕ) → length l ≤ k → get_or l k d ≡ d
-past l d k h = get_or-eq_default l d h
+some_none P a o e f = absurd cc
 
 -- the offset as it stands in the table of entries
 abbrev in_table : List UnitOffsets → ℕ → ℕ → Option ℕ
@@ -21,7 +19,7 @@ begun-table : (us : List UnitOffsets) (k x n : ℕ) → in_table us k x ≡ Some
 begun-table us k x n h =
     elim (cases_lt k (length us)) [
       | inl a ↦ a
-      | inr a ↦ some_none (k < length us) n (in_table us k x) (ap (λ (u : UnitOffsets). get_or u.entries x None) (past us no_unit k a)) h
+      | inr a ↦ some_none (k < length us) n (in_table us k x) (ap (λ (u : UnitOffsets). get_or u.entries x None) (get_or_past us k no_unit a)) h
     ]
 
 kept_unit : (us : List UnitOffsets) (u : UnitOffsets) (k x m : ℕ) → in_table us k x ≡ Some m → in_table (us ++ (u ∷ [])) k x ≡ Some m
@@ -34,7 +32,7 @@ fresh_none e n x =
     let no : Option ℕ = None in
     elim (cases_lt x 128) [
       | inl a ↦ get_or-replicate 128 x no no a
-      | inr a ↦ past (replicate 128 no) no x (let z : length (replicate 128 no) ≡ 128 = length-replicate 128 no in omega arith)
+      | inr a ↦ get_or_past (replicate 128 no) x no (let z : length (replicate 128 no) ≡ 128 = length-replicate 128 no in omega arith)
     ]
 
 more_units : (us : List UnitOffsets) (e : Encoding) (n k x m : ℕ) → in_table (us ++ (fresh_unit e n ∷ [])) k x ≡ Some m → in_table us k x ≡ Some m
@@ -47,7 +45,7 @@ more_units us e n k x m h =
         | inl b ↦ some_none P m (in_table all k x)
             (ap (λ (v : UnitOffsets). get_or v.entries x None) (ap (λ (i : ℕ). get_or all i no_unit) b ∙ get_or-append_seam us (fresh_unit e n) [] no_unit) ∙ fresh_none e n x) h
         | inr b ↦ some_none P m (in_table all k x)
-            (ap (λ (v : UnitOffsets). get_or v.entries x None) (past all no_unit k (rw (length-append us (fresh_unit e n ∷ [])) (omega arith)))) h
+            (ap (λ (v : UnitOffsets). get_or v.entries x None) (get_or_past all k no_unit (rw (length-append us (fresh_unit e n ∷ [])) (omega arith)))) h
       ]
     ]
 
@@ -81,7 +79,7 @@ more_entries us k x n j y m l h =
                   ap (λ (i : ℕ). get_or (set entries x (Some n)) i None) b ∙ get_or-set_same entries x (Some n) None d in
                   inl cc
               | inr d ↦ some_none _ m (get_or (set entries x (Some n)) y None)
-                  (past (set entries x (Some n)) None y (rw (length-set entries x (Some n)) (omega arith))) g
+                  (get_or_past (set entries x (Some n)) y None (rw (length-set entries x (Some n)) (omega arith))) g
             ]
             | inr b ↦ inr (ap (λ (i : ℕ). in_table us i y) a ∙ sym (get_or-set_other entries x y (Some n) None b) ∙ g)
           ]

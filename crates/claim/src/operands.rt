@@ -14,7 +14,7 @@ pub fn operands_fit(operation: Operation)
 pub fn all_operands_fit(operations: &[Operation])
     ensures { AllByRecursion FitsOperation operations.now }
 {
-    for i in 0..operations.len() {
-        operands_fit(operations[i]);
+    for operation in operations {
+        operands_fit(*operation);
     }
 }

@@ -1,3 +1,5 @@
 pub mod Errors
 pub mod Formats
 pub mod Orders
+pub mod Held
+pub mod Refusals

@@ -4,11 +4,12 @@ ghost use Rattle.std.specs.Prelude.{◌≡◌};
 ghost use Rattle.common.specs.Formats.{word_size, initial_length_size};
 
 /// The 32-bit or the 64-bit DWARF format.
-#[derive(Clone, Copy, PartialEq, Eq)]
+#[derive(Clone, Copy, PartialEq, Eq, Default)]
 pub enum Format {
     /// 64-bit DWARF.
     Dwarf64,
     /// 32-bit DWARF.
+    #[default]
     Dwarf32,
 }
 
@@ -35,7 +36,7 @@ impl Format {
 }
 
 /// What the encoding of a unit or a frame expression depends on.
-#[derive(Clone, Copy)]
+#[derive(Clone, Copy, Default)]
 pub struct Encoding {
     /// How many bytes an address takes.
     pub address_size: u8,

@@ -1,7 +1,12 @@
 //! Refusals.
 
-ghost use Rattle.std.specs.Prelude.{◌≡◌};
+ghost use Rattle.std.specs.Prelude.{◌≡◌, Some};
 ghost use Rattle.common.specs.Errors.{number_of, Named};
+ghost use Rattle.common.specs.Refusals.{refusal_text};
+ghost use Rattle.common.specs.declared.error.Error.TheVariants.{ValueTooLarge};
+
+use std::fmt;
+use std::num::TryFromIntError;
 
 /// Why a call was refused. `docs/RULES.md` says which call refuses when.
 #[derive(Clone, Copy, PartialEq, Eq, Debug)]
@@ -56,6 +61,15 @@ pub enum Error {
     InUse,
     /// Expressions would be nested too deeply.
     TooDeep,
+}
+
+/// A number that does not fit the narrower type is too large.
+impl From<TryFromIntError> for Error {
+    ghost from_gives = { λ _ e. e ≡ ValueTooLarge };
+
+    fn from(_error: TryFromIntError) -> Error {
+        Error::ValueTooLarge
+    }
 }
 
 impl Error {
@@ -125,3 +139,19 @@ impl Error {
         }
     }
 }
+
+/// The number and the name; refusal 2 is followed by the size that was met.
+impl fmt::Display for Error {
+    ghost output = { λ e. Some (refusal_text e) };
+
+    fn fmt<W: fmt::Write>(&self, f: &mut fmt::Formatter<W>) -> fmt::Result {
+        let number = self.number();
+        let name = self.name();
+        match self {
+            Error::UnsupportedWordSize(size) => write!(f, "{number} {name} {size}"),
+            _ => write!(f, "{number} {name}"),
+        }
+    }
+}
+
+impl std::error::Error for Error {}

@@ -3,6 +3,7 @@
 #![tactic(auto)]
 
 pub mod address;
+pub mod bytes;
 pub mod constants;
 pub mod encoding;
 pub mod endianity;

@@ -18,6 +18,10 @@ fixed_bytes false width n = low_bytes width n
 abbrev pub is_width : ℕ → Bool
 is_width width = width == 1 || (width == 2 || (width == 3 || (width == 4 || width == 8)))
 
+-- a number that a width holds, or the refusal: first of the width, then of the number
+abbrev pub in_width : ℕ → ℕ → Result ℕ Error
+in_width width n = cond (is_width width) (cond (nat_lt n (256 ^ width)) (Ok n) (Err ValueTooLarge)) (Err (UnsupportedWordSize width))
+
 -- the bytes of an unsigned number in a width, or the refusal: first of the width, then of the number
 abbrev pub udata : Bool → ℕ → ℕ → Result (List ℕ) Error
 udata big n width =

@@ -77,38 +77,6 @@ data_held b (op.Piece v) = refl
 data_held b (op.BitPiece v o) = refl
 data_held b (op.ParameterRef v) = refl
 
--- displacements matter to branches alone
-pub leads_other : (e : Encoding) (s : Scope) (f g : Option ℕ → Result ℤ Error) (x : Operation) (bs : List ℕ) →
-    ((t : Option ℕ) → x ≡ op.Skip t → ⊥) → ((t : Option ℕ) → x ≡ op.Branch t → ⊥) → encode_op e s f x bs ≡ encode_op e s g x bs
-leads_other e s f g (op.Raw d) bs skips branches = refl
-leads_other e s f g (op.Simple c) bs skips branches = refl
-leads_other e s f g (op.Address a) bs skips branches = refl
-leads_other e s f g (op.UnsignedConstant v) bs skips branches = refl
-leads_other e s f g (op.SignedConstant v) bs skips branches = refl
-leads_other e s f g (op.ConstantType t d) bs skips branches = refl
-leads_other e s f g (op.FrameOffset o) bs skips branches = refl
-leads_other e s f g (op.RegisterOffset r o) bs skips branches = refl
-leads_other e s f g (op.RegisterType r t) bs skips branches = refl
-leads_other e s f g (op.Pick i) bs skips branches = refl
-leads_other e s f g (op.Deref sp) bs skips branches = refl
-leads_other e s f g (op.DerefSize sp k) bs skips branches = refl
-leads_other e s f g (op.DerefType sp k t) bs skips branches = refl
-leads_other e s f g (op.PlusConstant v) bs skips branches = refl
-leads_other e s f g (op.Skip t) bs skips branches = absurd (skips t refl)
-leads_other e s f g (op.Branch t) bs skips branches = absurd (branches t refl)
-leads_other e s f g (op.Call v) bs skips branches = refl
-leads_other e s f g (op.CallRef v) bs skips branches = refl
-leads_other e s f g (op.VariableValue v) bs skips branches = refl
-leads_other e s f g (op.Convert t) bs skips branches = refl
-leads_other e s f g (op.Reinterpret t) bs skips branches = refl
-leads_other e s f g (op.EntryValue m) bs skips branches = refl
-leads_other e s f g (op.Register r) bs skips branches = refl
-leads_other e s f g (op.ImplicitValue d) bs skips branches = refl
-leads_other e s f g (op.ImplicitPointer v o) bs skips branches = refl
-leads_other e s f g (op.Piece v) bs skips branches = refl
-leads_other e s f g (op.BitPiece v o) bs skips branches = refl
-leads_other e s f g (op.ParameterRef v) bs skips branches = refl
-
 module _ (e : Encoding) (s : Scope) (leads : Option ℕ → Result ℤ Error) (x : Operation) (bs : List ℕ) (t : Option ℕ) (r : Result ℤ Error) (h : r ≡ leads t) where
   leads_skip : x ≡ op.Skip t → and_then r (λ z. encode_op e s (λ _. Ok z) x bs) ≡ encode_op e s leads x bs
   leads_skip q =

@@ -1,5 +1,5 @@
 -- An operation's bytes, written in two parts.
-use Rattle.std.proofs.Common.{◌≡◌, ℕ, ◌+◌, ◌≤◌, Bool, true, List, [], ◌++◌, length, ℤ, is_ok as std_is_ok, Ok, Err, Result, sym, refl, ap, ◌∙◌, append_assoc, arith, length-append}
+use Rattle.std.proofs.Common.{◌≡◌, ℕ, ◌+◌, Bool, true, List, [], ◌++◌, length, ℤ, is_ok as std_is_ok, Ok, Err, Result, sym, refl, ap, ◌∙◌, append_assoc, arith, length-append}
 use Rattle.common.specs.declared.encoding.Encoding.{Encoding}
 use Rattle.common.specs.declared.error.Error.{Error}
 use Rattle.dwarf.specs.Bytes.{bytes_of}
@@ -13,7 +13,7 @@ use Rattle.rules.specs.Encode.{encode_op}
 use Rattle.rules.specs.Passes.{tokens_or}
 use Rattle.rules.specs.Results.{and_then}
 use Rattle.rules.specs.Scope.{Scope}
-use Rattle.writer.specs.Meaning.{Sink, Memory, Keeps}
+use Rattle.writer.specs.Meaning.{Sink}
 use Rattle.emit.specs.Room.{Room, Encoded, op_tokens}
 use Rattle.emit.specs.Walk.{grown}
 
@@ -25,10 +25,6 @@ head_of : (big : Bool) (x : Result Tokens Error) (h : Head) → std_is_ok x ≡ 
 head_of big (Ok a) h i q = cc
 head_of big (Err z) h i q = let n : ◌≡◌ {A = ℕ} 0 1 = cc in absurd (omega arith)
 
-pub no_refusal : (big : Bool) (x : Result Tokens Error) (z : Error) → std_is_ok x ≡ true → Err z ≡ and_then x (λ a. Ok (front big [] a)) → ⊥
-no_refusal big (Ok a) z i q = let n : ◌≡◌ {A = ℕ} 0 1 = cc in omega arith
-no_refusal big (Err y) z i q = let n : ◌≡◌ {A = ℕ} 0 1 = cc in omega arith
-
 module _ (e : Encoding) (s : Scope) (z : ℤ) (o : Operation) (bs : List ℕ) (big : Bool) (h : Head)
     (known : Encoded e s z o bs) (only : data_in o bs ≡ bs)
     (q : Ok (held h) ≡ and_then (encode_op e s (λ _. Ok z) o bs) (λ a. Ok (front big [] a))) where
@@ -37,14 +33,8 @@ module _ (e : Encoding) (s : Scope) (z : ℤ) (o : Operation) (bs : List ℕ) (b
       operation_bytes e s (λ _. Ok z) o bs (op_tokens e s z o bs) big (is_ok (encode_op e s (λ _. Ok z) o bs) known)
       ∙ (ap (λ y. y ++ data_in o bs) (sym (head_of big (encode_op e s (λ _. Ok z) o bs) h known q)) ∙ ap (λ y. held h ++ y) only)
 
-  pub bytes_length : length (bytes_of big (op_tokens e s z o bs)) ≡ length (held h) + length bs
-  bytes_length = ap length bytes_are ∙ length-append (held h) bs
-
 pub grown_twice : (k : Sink) (x y : List ℕ) → grown (grown k x) y ≡ grown k (x ++ y)
 grown_twice k x y = ap (λ (l : List ℕ). record { content = l; capacity = k.capacity; big = k.big }) (append_assoc k.content x y)
-
-pub keeps_on : (m m' m'' : Memory) (n n' : ℕ) → n ≤ n' → Keeps m m' n → Keeps m' m'' n' → Keeps m m'' n'
-keeps_on m m' m'' n n' l f g = record { lent = g.lent ∙ f.lent; rest = λ k h. g.rest k h ∙ f.rest k (omega arith) }
 
 module _ (e : Encoding) (s : Scope) (z : ℤ) (o : Operation) (bs : List ℕ) (k : Sink) (big : Bool) (is : big ≡ k.big) (h : Head)
     (known : Encoded e s z o bs) (only : data_in o bs ≡ bs)
@@ -73,9 +63,3 @@ module _ (e : Encoding) (s : Scope) (z : ℤ) (o : Operation) (bs : List ℕ) (k
   pub put_both : (k' k'' : Sink) → k' ≡ grown k hs → k'' ≡ grown k' bs → k'' ≡ grown k (bytes_of k.big (op_tokens e s z o bs))
   put_both k' k'' j l =
       l ∙ (ap (λ (x : Sink). grown x bs) j ∙ (grown_twice k hs bs ∙ ap (grown k) (sym bytes_all)))
-
--- a sink that grew keeps what lies behind both ends
-pub keeps_grown : (m m' m'' : Memory) (k' k'' : Sink) (bs : List ℕ) → k'' ≡ grown k' bs → Keeps m m' (length k'.content) → Keeps m' m'' (length k''.content) → Keeps m m'' (length k''.content)
-keeps_grown m m' m'' k' k'' bs j f g =
-    let l : length k''.content ≡ length k'.content + length bs = ap (λ (x : Sink). length x.content) j ∙ length-append k'.content bs in
-    keeps_on m m' m'' (length k'.content) (length k''.content) (omega arith) f g

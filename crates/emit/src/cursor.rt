@@ -4,7 +4,7 @@ ghost use Rattle.std.specs.Prelude.{◌≡◌, ◌<◌, ◌≤◌, length};
 ghost use Rattle.emit.specs.Walk.{begin as beginning, moved, popped, entered};
 
 /// An expression that is being written: its number, and the next of its operations.
-#[derive(Clone, Copy)]
+#[derive(Clone, Copy, Default)]
 pub struct Open {
     /// The expression's number.
     pub number: usize,
@@ -28,40 +28,39 @@ impl Cursor {
     pub(crate) fn begin(number: usize) -> Cursor
         ensures { result ≡ beginning number }
     {
-        let none = Open { number: 0, next: 0 };
         Cursor {
             top: Open { number, next: 0 },
-            around: [none; 16],
+            around: [Open::default(); 16],
             level: 0,
         }
     }
-}
 
-/// Goes back to the expression around.
-pub(crate) fn leave(cursor: &mut Cursor)
-    requires deep { 0 < cursor.old.level }
-    requires most { cursor.old.level ≤ 16 }
-    requires opens { length cursor.old.around ≡ 16 }
-    ensures { cursor.new ≡ popped cursor.old }
-{
-    let level = cursor.level - 1;
-    cursor.top = cursor.around[level];
-    cursor.level = level;
-}
+    /// Goes back to the expression around.
+    pub(crate) fn leave(&mut self)
+        requires deep { 0 < self.old.level }
+        requires most { self.old.level ≤ 16 }
+        requires opens { length self.old.around ≡ 16 }
+        ensures { self.new ≡ popped self.old }
+    {
+        let level = self.level - 1;
+        self.top = self.around[level];
+        self.level = level;
+    }
 
-/// Goes into a nested expression, and keeps where the one around goes on.
-pub(crate) fn enter(cursor: &mut Cursor, number: usize)
-    requires most { cursor.old.level < 16 }
-    requires opens { length cursor.old.around ≡ 16 }
-    requires bounded { cursor.old.top.next < 4096 }
-    ensures { cursor.new ≡ entered cursor.old number }
-{
-    let level = cursor.level;
-    let top = cursor.top;
-    cursor.around[level] = Open {
-        number: top.number,
-        next: top.next + 1,
-    };
-    cursor.top = Open { number, next: 0 };
-    cursor.level = level + 1;
+    /// Goes into a nested expression, and keeps where the one around goes on.
+    pub(crate) fn enter(&mut self, number: usize)
+        requires most { self.old.level < 16 }
+        requires opens { length self.old.around ≡ 16 }
+        requires bounded { self.old.top.next < 4096 }
+        ensures { self.new ≡ entered self.old number }
+    {
+        let level = self.level;
+        let top = self.top;
+        self.around[level] = Open {
+            number: top.number,
+            next: top.next + 1,
+        };
+        self.top = Open { number, next: 0 };
+        self.level = level + 1;
+    }
 }

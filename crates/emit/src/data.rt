@@ -1,32 +1,26 @@
 //! The data of an operation.
 
 ghost use Rattle.std.specs.Prelude.{◌≡◌};
-ghost use Rattle.book_state.specs.Operations.{shape};
-ghost use Rattle.book_tables.specs.View.{view};
+ghost use Rattle.book.specs.Holds.{holds};
+ghost use Rattle.book_state.specs.Operations.{shape as shape_of};
 ghost use Rattle.book_tree.specs.Store.{InBook};
-ghost use Rattle.emit.specs.Held.{place_of, data_at};
+ghost use Rattle.emit.specs.Held.{data_at};
 
-use book_tables::tables::Tables;
-use op::operation::{Data, Operation};
-
-/// Where the data of an operation lie, if it holds some.
-fn place_of(op: Operation) -> Data
-    ensures { result ≡ place_of (shape op) }
-{
-    match op {
-        Operation::Raw(data) => data,
-        Operation::ConstantType(_, data) => data,
-        Operation::ImplicitValue(data) => data,
-        _ => Data { start: 0, len: 0 },
-    }
-}
+use book::book::Book;
+use book_state::shape::Shape;
+use book_tables::operation::shape;
+use op::operation::Operation;
 
 /// The data of an operation, none where it holds none.
-pub fn data_of<'b>(tables: &'b Tables<'_>, op: Operation) -> &'b [u8]
-    requires { InBook (view tables.now) (shape op) }
-    ensures { result.now ≡ data_at (view tables.now) (shape op) }
+pub fn data_of<'b>(book: &'b Book<'_>, op: Operation) -> &'b [u8]
+    requires { InBook (holds book.now) (shape_of op) }
+    ensures { result.now ≡ data_at (holds book.now) (shape_of op) }
 {
-    let data = place_of(op);
-    let start = data.start as usize;
-    &tables.bytes[start..start + data.len as usize]
+    match shape(op) {
+        Shape::Holding(data) => {
+            let start = usize::from(data.start);
+            &book.tables().bytes[start..start + usize::from(data.len)]
+        }
+        _ => &[],
+    }
 }

@@ -2,7 +2,6 @@
 
 ghost use Rattle.std.specs.Prelude.{◌≡◌, ℕ, ◌+◌, ◌≤◌, true, List, ◌∷◌, ◌++◌, length, take, Ok};
 ghost use Rattle.std.specs.Option.{option_to_list};
-ghost use Rattle.common.specs.Orders.{big_of};
 ghost use Rattle.dwarf.specs.Bytes.{bytes_of};
 ghost use Rattle.dwarf.specs.Leb.{uleb};
 ghost use Rattle.emit.specs.Walk.{grown};
@@ -13,12 +12,11 @@ ghost use Rattle.unit.specs.Offsets.{scope_of};
 ghost use Rattle.writer.specs.Meaning.{Keeps};
 
 use common::encoding::Encoding;
-use common::endianity::{Endianity, RunTimeEndian};
 use common::error::Error;
-use common::fixup::DebugInfoFixup;
+use common::fixup::{DebugInfoFixup, Fixups};
 use op::operation::Operation;
 use operation::encode::{encode_nested, encode_operation};
-use unit::UnitOffsets;
+use unit::Context;
 use writer::writer::Writer;
 
 /// Adds bytes that fit.
@@ -31,30 +29,15 @@ pub fn put<W: Writer>(w: &mut W, bytes: &[u8]) -> Result<(), Error>
     w.write(bytes)
 }
 
-/// The byte order of a sink.
-fn order<W: Writer>(w: &W) -> RunTimeEndian
-    ensures { big_of result ≡ (W.Writer.means w.now).big }
+/// Adds a row, if there is one, behind those in use.
+pub fn put_row(fixups: &mut Fixups, row: Option<DebugInfoFixup>)
+    requires { fixups.old.count + length (option_to_list row) ≤ 512 }
+    ensures count { fixups.new.count ≡ fixups.old.count + length (option_to_list row) }
+    ensures after { take fixups.new.count fixups.new.rows ≡ take fixups.old.count fixups.old.rows ++ option_to_list row }
 {
-    if w.endian().is_big_endian() {
-        RunTimeEndian::Big
-    } else {
-        RunTimeEndian::Little
-    }
-}
-
-/// Adds a row, if there is one, behind those in use, and answers how many are in use then.
-pub fn put_row(rows: &mut [DebugInfoFixup], count: usize, row: Option<DebugInfoFixup>) -> usize
-    requires { count + length (option_to_list row) ≤ length rows.old }
-    ensures value { result ≡ count + length (option_to_list row) }
-    ensures after { take result rows.new ≡ take count rows.old ++ option_to_list row }
-    ensures long { length rows.new ≡ length rows.old }
-{
-    match row {
-        Some(row) => {
-            rows[count] = row;
-            count + 1
-        }
-        None => count,
+    if let Some(row) = row {
+        fixups.rows[fixups.count] = row;
+        fixups.count += 1;
     }
 }
 
@@ -63,19 +46,17 @@ pub fn put_operation<W: Writer>(
     w: &mut W,
     op: Operation,
     data: &[u8],
-    encoding: Encoding,
-    unit_offsets: Option<&UnitOffsets>,
+    context: Context<'_>,
     displacement: i16,
 ) -> Result<(), Error>
-    requires known { Encoded encoding (scope_of unit_offsets) displacement op «data».now }
+    requires known { Encoded context.encoding (scope_of context.unit_offsets) displacement op «data».now }
     requires held { data_in op «data».now ≡ «data».now }
-    requires room { Room (W.Writer.means w.old) (length (bytes_of (W.Writer.means w.old).big (op_tokens encoding (scope_of unit_offsets) displacement op «data».now))) }
+    requires room { Room (W.Writer.means w.old) (length (bytes_of (W.Writer.means w.old).big (op_tokens context.encoding (scope_of context.unit_offsets) displacement op «data».now))) }
     ensures answer { result ≡ Ok tt }
-    ensures after { W.Writer.means w.new ≡ grown (W.Writer.means w.old) (bytes_of (W.Writer.means w.old).big (op_tokens encoding (scope_of unit_offsets.entry) displacement op «data».now)) }
+    ensures after { W.Writer.means w.new ≡ grown (W.Writer.means w.old) (bytes_of (W.Writer.means w.old).big (op_tokens context.entry.encoding (scope_of context.entry.unit_offsets) displacement op «data».now)) }
     ensures memory { Keeps (W.Writer.memory w.old) (W.Writer.memory w.new) (length (W.Writer.means w.new).content) }
 {
-    let endian = order(w);
-    let head = encode_operation(op, data, encoding, unit_offsets, endian, displacement)?;
+    let head = encode_operation(op, data, context, w.endian(), displacement)?;
     put(w, head.bytes())?;
     put(w, data)?;
     Ok(())

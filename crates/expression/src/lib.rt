@@ -8,23 +8,16 @@ ghost use Rattle.unit.specs.Offsets.{scope_of};
 ghost use Rattle.expression.specs.Sealed.{tree_at, size_at};
 
 use book::book::Book;
-use common::encoding::Encoding;
 use common::error::Error;
 use size::expression_size;
-use unit::UnitOffsets;
+use unit::Context;
 
-/// How many bytes an expression takes in a unit, or in a frame table where none is given.
-pub fn size_of(
-    book: &Book<'_>,
-    number: usize,
-    encoding: Encoding,
-    unit_offsets: Option<&UnitOffsets>,
-) -> Result<usize, Error>
-    ensures { result ≡ size_at encoding (scope_of unit_offsets.entry) (tree_at (holds book.now) number) }
+/// How many bytes an expression of a book takes.
+pub fn size_of(book: &Book<'_>, number: usize, context: Context<'_>) -> Result<usize, Error>
+    ensures { result ≡ size_at context.entry.encoding (scope_of context.entry.unit_offsets) (tree_at (holds book.now) number) }
 {
-    let tables = book.tables();
-    if number >= tables.sealed_count {
+    if number >= book.tables().sealed_count {
         return Err(Error::NoExpression);
     }
-    expression_size(tables, number, encoding, unit_offsets)
+    expression_size(book, number, context)
 }

@@ -1,8 +1,8 @@
 //! Fields that are added at the end of a sink.
 
-ghost use Rattle.std.specs.Prelude.{◌≡◌, ℕ, ◌<◌, [], ◌∷◌, length, Ok, Err};
+ghost use Rattle.std.specs.Prelude.{◌≡◌, length, Ok, Err};
 ghost use Rattle.common.specs.declared.error.Error.TheVariants.{InvalidReference};
-ghost use Rattle.dwarf.specs.Fixed.{fixed_bytes, udata};
+ghost use Rattle.dwarf.specs.Fixed.{udata};
 ghost use Rattle.dwarf.specs.Leb.{uleb, sleb};
 ghost use Rattle.writer.specs.Meaning.{Appends, Keeps, appended};
 ghost use Rattle.fields.specs.Fields.{address_data, sdata, no_length, length_answer};
@@ -10,10 +10,9 @@ ghost use Rattle.fields.specs.Offsets.{offset_of};
 
 use common::address::Address;
 use common::encoding::{Format, SectionId};
-use common::endianity::Endianity;
 use common::error::Error;
 use leb128::Leb128;
-use writer::fixed::{write_u8, write_u16, write_u32, write_u64};
+use writer::fixed::{in_width, low_bytes, write_u8, write_u16, write_u32, write_u64};
 use writer::writer::Writer;
 
 /// Write an address. A symbol is refused with `InvalidAddress`.
@@ -52,21 +51,8 @@ pub fn write_reference<W: Writer>(_w: &mut W, _symbol: usize, _size: u8) -> Resu
 pub fn write_udata<W: Writer>(w: &mut W, val: u64, size: u8) -> Result<(), Error>
     ensures { Appends (udata (W.Writer.means w.old).big val size) (W.Writer.means w.old) (W.Writer.memory w.old) result (W.Writer.means w.new) (W.Writer.memory w.new) }
 {
-    match size {
-        1 if val > 0xff => Err(Error::ValueTooLarge),
-        2 if val > 0xffff => Err(Error::ValueTooLarge),
-        3 if val > 0xff_ffff => Err(Error::ValueTooLarge),
-        4 if val > 0xffff_ffff => Err(Error::ValueTooLarge),
-        1 => write_u8(w, val as u8),
-        2 => write_u16(w, val as u16),
-        3 => {
-            let bytes = bytes_u24(w.endian(), val as u32);
-            w.write(&bytes)
-        }
-        4 => write_u32(w, val as u32),
-        8 => write_u64(w, val),
-        otherwise => Err(Error::UnsupportedWordSize(otherwise)),
-    }
+    let val = in_width(val, size)?;
+    w.write(low_bytes(w.endian(), val, size).as_slice())
 }
 
 /// Write signed data of 1, 2, 4 or 8 bytes.
@@ -74,12 +60,9 @@ pub fn write_sdata<W: Writer>(w: &mut W, val: i64, size: u8) -> Result<(), Error
     ensures { Appends (sdata (W.Writer.means w.old).big val size) (W.Writer.means w.old) (W.Writer.memory w.old) result (W.Writer.means w.new) (W.Writer.memory w.new) }
 {
     match size {
-        1 if val < -0x80 || val > 0x7f => Err(Error::ValueTooLarge),
-        2 if val < -0x8000 || val > 0x7fff => Err(Error::ValueTooLarge),
-        4 if val < -0x8000_0000 || val > 0x7fff_ffff => Err(Error::ValueTooLarge),
-        1 => write_u8(w, (val as i8).cast_unsigned()),
-        2 => write_u16(w, (val as i16).cast_unsigned()),
-        4 => write_u32(w, (val as i32).cast_unsigned()),
+        1 => write_u8(w, i8::try_from(val)?.cast_unsigned()),
+        2 => write_u16(w, i16::try_from(val)?.cast_unsigned()),
+        4 => write_u32(w, i32::try_from(val)?.cast_unsigned()),
         8 => write_u64(w, val.cast_unsigned()),
         otherwise => Err(Error::UnsupportedWordSize(otherwise)),
     }
@@ -124,19 +107,5 @@ pub fn write_initial_length<W: Writer>(
             w.write(&[0xff, 0xff, 0xff, 0xff, 0, 0, 0, 0, 0, 0, 0, 0])?;
             Ok(InitialLengthOffset(len + 4))
         }
-    }
-}
-
-/// The bytes of a number below 2 to the 24th in a byte order.
-pub(crate) fn bytes_u24<E: Endianity>(endian: E, val: u32) -> [u8; 3]
-    requires { val < 16777216 }
-    ensures { result ≡ fixed_bytes (E.Endianity.big endian) 3 val }
-{
-    if endian.is_big_endian() {
-        let [_, a, b, c] = val.to_be_bytes();
-        [a, b, c]
-    } else {
-        let [a, b, c, _] = val.to_le_bytes();
-        [a, b, c]
     }
 }

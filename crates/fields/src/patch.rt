@@ -5,10 +5,10 @@ ghost use Rattle.dwarf.specs.Fixed.{udata};
 ghost use Rattle.writer.specs.Meaning.{Patches};
 ghost use Rattle.fields.specs.Fields.{length_data};
 
-use crate::append::{InitialLengthOffset, bytes_u24};
+use crate::append::InitialLengthOffset;
 use common::encoding::{Format, SectionId};
 use common::error::Error;
-use writer::fixed::{write_u8_at, write_u16_at, write_u32_at, write_u64_at};
+use writer::fixed::{in_width, low_bytes};
 use writer::writer::Writer;
 
 /// Write an offset that is relative to the start of a section, at an offset.
@@ -28,21 +28,8 @@ pub fn write_offset_at<W: Writer>(
 pub fn write_udata_at<W: Writer>(w: &mut W, offset: usize, val: u64, size: u8) -> Result<(), Error>
     ensures { Patches offset (udata (W.Writer.means w.old).big val size) (W.Writer.means w.old) (W.Writer.memory w.old) result (W.Writer.means w.new) (W.Writer.memory w.new) }
 {
-    match size {
-        1 if val > 0xff => Err(Error::ValueTooLarge),
-        2 if val > 0xffff => Err(Error::ValueTooLarge),
-        3 if val > 0xff_ffff => Err(Error::ValueTooLarge),
-        4 if val > 0xffff_ffff => Err(Error::ValueTooLarge),
-        1 => write_u8_at(w, offset, val as u8),
-        2 => write_u16_at(w, offset, val as u16),
-        3 => {
-            let bytes = bytes_u24(w.endian(), val as u32);
-            w.write_at(offset, &bytes)
-        }
-        4 => write_u32_at(w, offset, val as u32),
-        8 => write_u64_at(w, offset, val),
-        otherwise => Err(Error::UnsupportedWordSize(otherwise)),
-    }
+    let val = in_width(val, size)?;
+    w.write_at(offset, low_bytes(w.endian(), val, size).as_slice())
 }
 
 /// Write an initial length where `write_initial_length` left its place.

@@ -1,7 +1,8 @@
 -- The bytes of an operation before its data, and the width of a reference.
-use Rattle.std.specs.Prelude.{ℕ, cond, List, take, Ok, Err, Result}
+use Rattle.std.specs.Prelude.{ℕ, cond, List, Ok, Err, Result}
 use Rattle.common.specs.declared.error.Error.{Error}
 use Rattle.common.specs.declared.error.Error.TheVariants.{UnsupportedWordSize, InvalidReference}
+use Rattle.common.specs.Held.{held as in_use}
 use Rattle.dwarf.specs.Fixed.{is_width}
 use Rattle.op.specs.declared.operation.DebugInfoRef.{DebugInfoRef}
 use Rattle.op.specs.declared.operation.DebugInfoRef.TheVariants.{Symbol, Entry}
@@ -10,7 +11,7 @@ use Rattle.head.specs.declared.head.Head.{Head}
 
 -- the bytes that a head holds
 abbrev pub held : Head → List ℕ
-held h = take h.len h.bytes
+held h = in_use h.0
 
 abbrev pub bytes_in : Result Head Error → Result (List ℕ) Error
 bytes_in (Ok h) = Ok (held h)

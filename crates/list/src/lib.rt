@@ -20,24 +20,15 @@ pub fn push<T: Copy>(table: &mut [T], len: usize, item: T) -> Option<usize>
 pub fn read<T: Copy>(table: &[T], len: usize, index: usize) -> Option<T>
     ensures { result ≡ item_at table.now len index }
 {
-    if index < len && index < table.len() {
-        Some(table[index])
-    } else {
-        None
-    }
+    table[..len.min(table.len())].get(index).copied()
 }
 
 /// Takes out the element at `index` among those in use; those behind it move one place down.
 pub fn remove<T: Copy>(table: &mut [T], len: usize, index: usize) -> Option<T>
     ensures { removed table.old len index ≡ (result, table.new) }
 {
+    let item = read(table, len, index)?;
     let used = len.min(table.len());
-    if index >= used {
-        return None;
-    }
-    let item = table[index];
-    for i in 0..used - 1 - index {
-        table[index + i] = table[index + i + 1];
-    }
+    table.copy_within(index + 1..used, index);
     Some(item)
 }

@@ -1,7 +1,6 @@
 //! The bytes of an operation, in the order of DWARF 5, sections 2.5 and 2.6.
 
 ghost use Rattle.std.specs.Prelude.{◌≡◌, [], ◌∷◌, Ok};
-ghost use Rattle.common.specs.Orders.{big_of};
 ghost use Rattle.dwarf.specs.Leb.{uleb};
 ghost use Rattle.head.specs.Heads.{bytes_in, held};
 ghost use Rattle.operation.specs.Fronts.{front};
@@ -12,25 +11,27 @@ ghost use Rattle.unit.specs.Offsets.{scope_of};
 
 use common::constants::*;
 use common::encoding::Encoding;
-use common::endianity::RunTimeEndian;
+use common::endianity::Endianity;
 use common::error::Error;
 use head::head::Head;
-use head::operand::{address_in, by_version, in_width, placeholder};
+use head::operand::{address_in, by_version, placeholder};
 use op::operation::Operation;
-use unit::{UnitOffsets, base_offset, entry_offset, pointer_size};
+use unit::{Context, pointer_size};
+use writer::fixed::in_width;
 
 /// The code and operands of an operation up to its data. `displacement` is a branch's.
-pub fn encode_operation(
+pub fn encode_operation<E: Endianity>(
     op: Operation,
     data: &[u8],
-    encoding: Encoding,
-    unit_offsets: Option<&UnitOffsets>,
-    endian: RunTimeEndian,
+    context: Context<'_>,
+    endian: E,
     displacement: i16,
 ) -> Result<Head, Error>
-    ensures { bytes_in result ≡ and_then (encode_op encoding (scope_of unit_offsets.entry) (λ _. Ok displacement) op «data».now) (λ a. Ok (front (big_of endian) [] a)) }
+    ensures { bytes_in result ≡ and_then (encode_op context.entry.encoding (scope_of context.entry.unit_offsets) (λ _. Ok displacement) op «data».now) (λ a. Ok (front (E.Endianity.big endian) [] a)) }
 {
+    let encoding = context.encoding;
     let head = Head::new();
+    let offset = u64::from(displacement.cast_unsigned());
     match op {
         Operation::Raw(_) => Ok(head),
         Operation::Simple(opcode) => Ok(head.byte(opcode.0)),
@@ -47,7 +48,7 @@ pub fn encode_operation(
         Operation::UnsignedConstant(value) => Ok(head.byte(DW_OP_CONSTU.0).uleb128(value)),
         Operation::SignedConstant(value) => Ok(head.byte(DW_OP_CONSTS.0).sleb128(value)),
         Operation::ConstantType(base, _) => {
-            let base = entry_offset(unit_offsets, base)?;
+            let base = context.entry_offset(base)?;
             let len = in_width(data.len() as u64, 1)?;
             let code = by_version(encoding, DW_OP_CONST_TYPE.0, DW_OP_GNU_CONST_TYPE.0);
             Ok(head.byte(code).uleb128(base).byte(len as u8))
@@ -59,14 +60,14 @@ pub fn encode_operation(
         Operation::RegisterOffset(register, offset) => {
             Ok(
                 head.byte(DW_OP_BREGX.0)
-                    .uleb128(register.0 as u64)
+                    .uleb128(u64::from(register.0))
                     .sleb128(offset),
             )
         }
         Operation::RegisterType(register, base) => {
-            let base = entry_offset(unit_offsets, base)?;
+            let base = context.entry_offset(base)?;
             let code = by_version(encoding, DW_OP_REGVAL_TYPE.0, DW_OP_GNU_REGVAL_TYPE.0);
-            Ok(head.byte(code).uleb128(register.0 as u64).uleb128(base))
+            Ok(head.byte(code).uleb128(u64::from(register.0)).uleb128(base))
         }
         Operation::Pick(0) => Ok(head.byte(DW_OP_DUP.0)),
         Operation::Pick(1) => Ok(head.byte(DW_OP_OVER.0)),
@@ -80,7 +81,7 @@ pub fn encode_operation(
             Ok(head.byte(DW_OP_DEREF_SIZE.0).byte(size))
         }
         Operation::DerefType { space, size, base } => {
-            let base = entry_offset(unit_offsets, base)?;
+            let base = context.entry_offset(base)?;
             let code = if space {
                 DW_OP_XDEREF_TYPE.0
             } else {
@@ -89,40 +90,30 @@ pub fn encode_operation(
             Ok(head.byte(code).byte(size).uleb128(base))
         }
         Operation::PlusConstant(value) => Ok(head.byte(DW_OP_PLUS_UCONST.0).uleb128(value)),
-        Operation::Skip(_) => {
-            Ok(
-                head.byte(DW_OP_SKIP.0)
-                    .fixed(endian, displacement.cast_unsigned() as u64, 2),
-            )
-        }
-        Operation::Branch(_) => {
-            Ok(
-                head.byte(DW_OP_BRA.0)
-                    .fixed(endian, displacement.cast_unsigned() as u64, 2),
-            )
-        }
+        Operation::Skip(_) => Ok(head.byte(DW_OP_SKIP.0).fixed(endian, offset, 2)),
+        Operation::Branch(_) => Ok(head.byte(DW_OP_BRA.0).fixed(endian, offset, 2)),
         Operation::Call(entry) => {
-            let val = in_width(entry_offset(unit_offsets, entry)?, 4)?;
+            let val = in_width(context.entry_offset(entry)?, 4)?;
             Ok(head.byte(DW_OP_CALL4.0).fixed(endian, val, 4))
         }
         Operation::CallRef(entry) => {
-            let width = placeholder(unit_offsets, entry, encoding.format.word_size())?;
+            let width = placeholder(context, entry, encoding.format.word_size())?;
             Ok(head.byte(DW_OP_CALL_REF.0).fixed(endian, 0, width))
         }
         Operation::VariableValue(entry) => {
-            let width = placeholder(unit_offsets, entry, encoding.format.word_size())?;
+            let width = placeholder(context, entry, encoding.format.word_size())?;
             Ok(
                 head.byte(DW_OP_GNU_VARIABLE_VALUE.0)
                     .fixed(endian, 0, width),
             )
         }
         Operation::Convert(base) => {
-            let base = base_offset(unit_offsets, base)?;
+            let base = context.base_offset(base)?;
             let code = by_version(encoding, DW_OP_CONVERT.0, DW_OP_GNU_CONVERT.0);
             Ok(head.byte(code).uleb128(base))
         }
         Operation::Reinterpret(base) => {
-            let base = base_offset(unit_offsets, base)?;
+            let base = context.base_offset(base)?;
             let code = by_version(encoding, DW_OP_REINTERPRET.0, DW_OP_GNU_REINTERPRET.0);
             Ok(head.byte(code).uleb128(base))
         }
@@ -130,12 +121,12 @@ pub fn encode_operation(
         Operation::Register(register) if register.0 < 32 => {
             Ok(head.byte(DW_OP_REG0.0 + register.0 as u8))
         }
-        Operation::Register(register) => Ok(head.byte(DW_OP_REGX.0).uleb128(register.0 as u64)),
+        Operation::Register(register) => Ok(head.byte(DW_OP_REGX.0).uleb128(u64::from(register.0))),
         Operation::ImplicitValue(_) => {
             Ok(head.byte(DW_OP_IMPLICIT_VALUE.0).uleb128(data.len() as u64))
         }
         Operation::ImplicitPointer { entry, byte_offset } => {
-            let width = placeholder(unit_offsets, entry, pointer_size(encoding))?;
+            let width = placeholder(context, entry, pointer_size(encoding))?;
             let code = by_version(
                 encoding,
                 DW_OP_IMPLICIT_POINTER.0,
@@ -153,7 +144,7 @@ pub fn encode_operation(
                 .uleb128(bit_offset),
         ),
         Operation::ParameterRef(entry) => {
-            let val = in_width(entry_offset(unit_offsets, entry)?, 4)?;
+            let val = in_width(context.entry_offset(entry)?, 4)?;
             Ok(head.byte(DW_OP_GNU_PARAMETER_REF.0).fixed(endian, val, 4))
         }
     }

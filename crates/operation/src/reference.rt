@@ -30,16 +30,12 @@ pub fn reference_of(op: Operation, encoding: Encoding, offset: usize) -> Option<
     ensures { option_to_list result ≡ row_of encoding offset op }
 {
     match op {
-        Operation::CallRef(entry) => entry_row(offset + 1, encoding.format.word_size(), entry),
-        Operation::VariableValue(entry) => entry_row(
-            offset + 1,
-            encoding.format.word_size(),
-            entry,
-        ),
-        Operation::ImplicitPointer {
-            entry,
-            byte_offset: _,
-        } => entry_row(offset + 1, pointer_size(encoding), entry),
+        Operation::CallRef(entry) | Operation::VariableValue(entry) => {
+            entry_row(offset + 1, encoding.format.word_size(), entry)
+        }
+        Operation::ImplicitPointer { entry, .. } => {
+            entry_row(offset + 1, pointer_size(encoding), entry)
+        }
         _ => None,
     }
 }

@@ -3,9 +3,10 @@
 
 #![tactic(auto)]
 
-ghost use Rattle.std.specs.Prelude.{◌≡◌, ℕ, false, [], length};
-ghost use Rattle.sinks.specs.Lent.{lent};
+ghost use Rattle.std.specs.Prelude.{◌≡◌, ℕ, false, []};
+ghost use Rattle.own_sink.specs.Owned.{owned};
 
+use arrayvec::ArrayVec;
 use common::endianity::LittleEndian;
 use common::error::Error;
 use writer::writer::Writer;
@@ -13,19 +14,16 @@ use writer::writer::Writer;
 /// Up to 16 bytes.
 #[derive(Drop)]
 pub struct ArraySink {
-    bytes: [u8; 16],
-    len: usize,
-    ghost whole: { length bytes ≡ 16 },
+    bytes: ArrayVec<u8, 16>,
 }
 
 impl ArraySink {
     /// An empty sink.
     pub fn new() -> ArraySink
-        ensures { lent result.bytes 16 result.len false ≡ record { content = []; capacity = 16; big = false } }
+        ensures { owned result.bytes.items ≡ record { content = []; capacity = 16; big = false } }
     {
         ArraySink {
-            bytes: [0; 16],
-            len: 0,
+            bytes: ArrayVec::new(),
         }
     }
 }
@@ -33,29 +31,24 @@ impl ArraySink {
 impl Writer for ArraySink {
     type Endian = LittleEndian;
 
-    ghost means = { λ s. lent s.bytes 16 s.len false };
+    ghost means = { λ s. owned s.bytes.items };
 
     fn endian(&self) -> LittleEndian {
         LittleEndian
     }
 
     fn len(&self) -> usize {
-        self.len.min(self.bytes.len())
+        self.bytes.len()
     }
 
     fn room(&self) -> usize {
-        self.bytes.len() - self.len()
+        self.bytes.remaining_capacity()
     }
 
     fn write(&mut self, bytes: &[u8]) -> Result<(), Error> {
-        let n = bytes.len();
-        if n > self.room() {
-            return Err(Error::NoRoom);
-        }
-        let from = self.len();
-        self.bytes[from..from + n].copy_from_slice(bytes);
-        self.len = from + n;
-        Ok(())
+        self.bytes
+            .try_extend_from_slice(bytes)
+            .map_err(|_| Error::NoRoom)
     }
 
     fn write_at(&mut self, offset: usize, bytes: &[u8]) -> Result<(), Error> {
@@ -67,7 +60,8 @@ impl Writer for ArraySink {
         if n > len - offset {
             return Err(Error::LengthOutOfBounds);
         }
-        self.bytes[offset..offset + n].copy_from_slice(bytes);
+        let written = self.bytes.as_mut_slice();
+        written[offset..offset + n].copy_from_slice(bytes);
         Ok(())
     }
 }

@@ -1,9 +1,8 @@
 -- Ends that are written into the table.
-use Rattle.std.proofs.Common.{◌≡◌, ℕ, zero, suc, ◌+◌, ◌-◌, ◌<◌, ◌≤◌, ◌≢◌, ◌⊎◌, List, length, get_or, set, sym, refl, ap, ◌∙◌, subst, inl, inr, ⊎_elim, arith}
+use Rattle.std.proofs.Common.{◌≡◌, ℕ, zero, suc, ◌+◌, ◌-◌, ◌<◌, ◌≤◌, List, length, get_or, set, sym, ap, ◌∙◌, subst, ⊎_elim, arith}
 use Rattle.std.proofs.lemmas.List.{get_or-set_same, get_or-set_other}
 use Rattle.std.proofs.lemmas.Bool.{cases_eq}
 use Rattle.common.specs.declared.encoding.Encoding.{Encoding}
-use Rattle.op.specs.declared.operation.Operation.{Operation}
 use Rattle.book_state.specs.declared.shape.Shape.TheVariants.{Nesting}
 use Rattle.book_state.specs.Operations.{shape}
 use Rattle.book_state.specs.State.{State, op_at, expression_at}
@@ -13,19 +12,11 @@ use Rattle.rules.specs.Scope.{Scope}
 use Rattle.book_tree.specs.Store.{tree_in}
 use Rattle.positions.specs.Ends.{EndsAt, filled_to, Filled, FilledBy, Keeps}
 
-apart : (j k : ℕ) → j ≢ k → (j < k) ⊎ (k < j)
-apart zero zero h = absurd (h refl)
-apart zero (suc k) h = inl (omega arith)
-apart (suc j) zero h = inr (omega arith)
-apart (suc j) (suc k) h = ⊎_elim (λ l. inl (omega arith)) (λ l. inr (omega arith)) (apart j k (λ e. h (ap suc e)))
-
 -- a place lies in one expression
 pub one_owner : (b : State) → Ordered b → (j k p : ℕ) → j < b.sealed_count → k < b.sealed_count →
     (expression_at b j).start ≤ p → p < (expression_at b j).start + (expression_at b j).count →
     (expression_at b k).start ≤ p → p < (expression_at b k).start + (expression_at b k).count → j ≡ k
-one_owner b o j k p hj hk a c d f = ⊎_elim (λ q. q)
-    (λ ne. ⊎_elim (λ lt. let z = o j k lt hk in absurd (omega arith)) (λ gt. let z = o k j gt hj in absurd (omega arith)) (apart j k ne))
-    (cases_eq j k)
+one_owner b o j k p hj hk a c d f = grind (arith, o j k, o k j)
 
 module _ (e : Encoding) (s : Scope) (b : State) where
   pub keeps_then : (x y z : List ℕ) → Keeps e s b x y → Keeps e s b y z → Keeps e s b x z
@@ -73,10 +64,3 @@ module _ (e : Encoding) (s : Scope) (b : State) where
   pub filled_inner : (x : List ℕ) (k : ℕ) → Filled e s b x k → (i m : ℕ) → i < (expression_at b k).count → shape (op_at b ((expression_at b k).start + i)) ≡ Nesting m → Filled e s b x m
   unfolding filled_to
   filled_inner x k h i m l q n = (h (suc n)).1 i m l q
-
-  -- what holds of the operations before one and of that one
-  pub more : (P : ℕ → Type 0) (i : ℕ) → ((j : ℕ) → j < i → P j) → P i → (j : ℕ) → j < i + 1 → P j
-  more P i f h j l = ⊎_elim (λ q. subst P (sym q) h) (λ ne. f j (omega arith)) (cases_eq j i)
-
-  pub nested-filled : (x : List ℕ) (y : Operation) (m : ℕ) → shape y ≡ Nesting m → Filled e s b x m → FilledBy e s b x y
-  nested-filled x y m q h k r = let z : m ≡ k = cc in subst (Filled e s b x) z h

@@ -2,52 +2,56 @@
 
 #![tactic(auto)]
 
-ghost use Rattle.std.specs.Prelude.{◌≡◌, ℕ, ◌<◌, ◌≤◌, length, IfOk, OnOk};
+ghost use Rattle.std.specs.Prelude.{◌≡◌, ℕ, ◌+◌, ◌<◌, ◌≤◌, length, slice_index, IfOk, OnOk};
+ghost use Rattle.common.specs.declared.encoding.Encoding.{Encoding};
+ghost use Rattle.book.specs.Holds.{holds};
 ghost use Rattle.book_state.specs.Operations.{shape};
 ghost use Rattle.book_state.specs.State.{expression_at, weight_by};
-ghost use Rattle.book_state.specs.Whole.{Ordered, Whole};
-ghost use Rattle.book_tables.specs.View.{view};
 ghost use Rattle.book_tree.specs.Store.{InBook, size_in, tree_in};
-ghost use Rattle.positions.specs.Ends.{Keeps, Filled, FilledBy};
+ghost use Rattle.positions.specs.Ends.{Keeps, Filled, FilledBy, Own};
+ghost use Rattle.rules.specs.Encode.{starts};
+ghost use Rattle.rules.specs.Scope.{Scope};
 ghost use Rattle.rules.specs.Sizes.{size_tree};
 ghost use Rattle.unit.specs.Offsets.{scope_of};
 
-use book_tables::tables::Tables;
-use common::encoding::Encoding;
+use book::book::Book;
+use book_tree::reading::{expression, operations};
 use common::error::Error;
 use leb128::uleb128_size;
 use op::operation::Operation;
 use size::operation_size;
-use unit::UnitOffsets;
+use unit::Context;
 
 pub mod branch;
+
+/// Room for where operations end: a place for each operation that a book can have.
+#[derive(Drop)]
+pub struct Ends<'e> {
+    /// The places.
+    pub places: &'e mut [usize],
+    ghost wide: { 4096 ≤ length places.now },
+}
 
 /// The size of a sealed expression. `ends` gets where each of its operations ends, from the expression's start, at the
 /// operation's place in the book; and so for nested expressions.
 #[cycle(measure_expression_measure_operation)]
 pub fn measure_expression(
-    tables: &Tables<'_>,
+    book: &Book<'_>,
     number: usize,
-    encoding: Encoding,
-    unit_offsets: Option<&UnitOffsets>,
-    ends: &mut [usize],
+    context: Context<'_>,
+    ends: &mut Ends<'_>,
 ) -> Result<usize, Error>
-    requires whole { Whole (view tables.now) }
-    requires ordered { Ordered (view tables.now) }
-    requires there { number < tables.now.sealed_count }
-    requires wide { 4096 ≤ length ends.old }
-    ensures value { result ≡ size_tree encoding (scope_of unit_offsets.entry) (tree_in (view tables.now) number) }
-    ensures light { IfOk result (λ n. n ≤ (expression_at (view tables.now) number).weight) }
-    ensures keeps { Keeps encoding (scope_of unit_offsets.entry) (view tables.now) ends.old ends.new }
-    ensures filled { OnOk result (Filled encoding (scope_of unit_offsets.entry) (view tables.now) ends.new number) }
+    requires { number < (holds book.now).sealed_count }
+    ensures value { result ≡ size_tree context.entry.encoding (scope_of context.entry.unit_offsets) (tree_in (holds book.now) number) }
+    ensures light { IfOk result (λ n. n ≤ (expression_at (holds book.now) number).weight) }
+    ensures keeps { Keeps context.entry.encoding (scope_of context.entry.unit_offsets) (holds book.now) ends.old.places.now ends.new.places.now }
+    ensures filled { OnOk result (Filled context.entry.encoding (scope_of context.entry.unit_offsets) (holds book.now) ends.new.places.now number) }
 {
-    let expression = tables.expressions[number];
+    let start = expression(book, number).start;
     let mut size = 0;
-    for i in 0..expression.count {
-        let op = tables.operations[expression.start + i];
-        let one = measure_operation(tables, op, encoding, unit_offsets, ends)?;
-        size += one;
-        ends[expression.start + i] = size;
+    for (i, op) in operations(book, number).iter().enumerate() {
+        size += measure_operation(book, *op, context, ends)?;
+        ends.places[start + i] = size;
     }
     Ok(size)
 }
@@ -55,24 +59,33 @@ pub fn measure_expression(
 /// The size of an operation. `ends` gets where the operations of a nested expression end.
 #[cycle(measure_expression_measure_operation)]
 fn measure_operation(
-    tables: &Tables<'_>,
+    book: &Book<'_>,
     op: Operation,
-    encoding: Encoding,
-    unit_offsets: Option<&UnitOffsets>,
-    ends: &mut [usize],
+    context: Context<'_>,
+    ends: &mut Ends<'_>,
 ) -> Result<usize, Error>
-    requires whole { Whole (view tables.now) }
-    requires ordered { Ordered (view tables.now) }
-    requires inside { InBook (view tables.now) (shape op) }
-    requires wide { 4096 ≤ length ends.old }
-    ensures value { result ≡ size_in encoding (scope_of unit_offsets.entry) (view tables.now) op }
-    ensures light { IfOk result (λ n. n ≤ weight_by tables.now.expressions (shape op)) }
-    ensures keeps { Keeps encoding (scope_of unit_offsets.entry) (view tables.now) ends.old ends.new }
-    ensures filled { OnOk result (FilledBy encoding (scope_of unit_offsets.entry) (view tables.now) ends.new op) }
+    requires { InBook (holds book.now) (shape op) }
+    ensures value { result ≡ size_in context.entry.encoding (scope_of context.entry.unit_offsets) (holds book.now) op }
+    ensures light { IfOk result (λ n. n ≤ weight_by (holds book.now).expressions (shape op)) }
+    ensures keeps { Keeps context.entry.encoding (scope_of context.entry.unit_offsets) (holds book.now) ends.old.places.now ends.new.places.now }
+    ensures filled { OnOk result (FilledBy context.entry.encoding (scope_of context.entry.unit_offsets) (holds book.now) ends.new.places.now op) }
 {
     if let Operation::EntryValue(number) = op {
-        let length = measure_expression(tables, number, encoding, unit_offsets, ends)?;
+        let length = measure_expression(book, number, context, ends)?;
         return Ok(1 + uleb128_size(length as u64) + length);
     }
-    operation_size(tables, op, encoding, unit_offsets)
+    operation_size(book, op, context)
+}
+
+/// Where the first `count` operations of an expression end, from the expression's start.
+pub fn end_of(book: &Book<'_>, number: usize, count: usize, ends: &Ends<'_>) -> usize
+    requires there { number < (holds book.now).sealed_count }
+    requires inside { count ≤ (expression_at (holds book.now) number).count }
+    ensures value { (e : Encoding) (s : Scope) → Own e s (holds book.now) ends.now.places.now number → result ≡ slice_index (starts e s 0 (tree_in (holds book.now) number)) count }
+    ensures small { (most : ℕ) → ((i : ℕ) → i < (expression_at (holds book.now) number).count → slice_index ends.now.places.now ((expression_at (holds book.now) number).start + i) ≤ most) → result ≤ most }
+{
+    if count == 0 {
+        return 0;
+    }
+    ends.places[expression(book, number).start + count - 1]
 }

@@ -8,7 +8,7 @@ use Rattle.common.specs.declared.address.Address.TheVariants as address
 use Rattle.common.specs.declared.encoding.Encoding.{Encoding}
 use Rattle.common.specs.declared.error.Error.{Error}
 use Rattle.common.specs.declared.error.Error.TheVariants.{ValueTooLarge, UnsupportedWordSize}
-use Rattle.dwarf.specs.Fixed.{is_width}
+use Rattle.dwarf.specs.Fixed.{is_width, in_width}
 use Rattle.dwarf.specs.Leb.{uleb}
 use Rattle.dwarf.specs.Bytes.{joined}
 use Rattle.dwarf.specs.Tokens.{Tokens, done, code, unsigned, signed, fixed, displacement, short, nested, reference}
@@ -49,7 +49,7 @@ use Rattle.rules.specs.Results.{and_then, plus}
 use Rattle.rules.specs.Claims.{RefusalsListed}
 use Rattle.rules.specs.Encode.{encode_op, starts, encode_tree}
 use Rattle.rules.specs.Kinds.{branch, kind_of}
-use Rattle.rules.specs.Operands.{by_version, in_width, address_in, short_data_of, referred, in_two_bytes, after_branch, displaced}
+use Rattle.rules.specs.Operands.{by_version, address_in, short_data_of, referred, in_two_bytes, after_branch, displaced}
 use Rattle.rules.specs.Scope.{Scope, in_frame, in_unit, from_start, base_of, base_or_generic}
 use Rattle.rules.specs.Sealed.{count_of, SealedKind, Sealed}
 use Rattle.rules.specs.Sizes.{size_op, size_tree, nested_size, extent_op, extent_nested, pointer_size}

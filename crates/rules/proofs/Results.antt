@@ -1,11 +1,11 @@
 -- What is known where an answer is no refusal.
-use Rattle.std.proofs.Common.{◌≡◌, ℕ, Ok, Err, Result, refl, subst, arith}
+use Rattle.std.proofs.Common.{◌≡◌, Ok, Err, Result, refl, subst}
 use Rattle.common.specs.declared.error.Error.{Error}
 use Rattle.rules.specs.Results.{and_then}
 
 -- a refusal is no value
 pub not_refused : {Y : Type 0} (P : Type 0) (refusal : Error) (y : Y) → ◌≡◌ {A = Result Y Error} (Err refusal) (Ok y) → P
-not_refused P refusal y h = let z : ◌≡◌ {A = ℕ} 0 1 = cc in absurd (omega arith)
+not_refused P refusal y h = absurd (cc)
 
 -- a value is what it equals
 pub value_is : {Y : Type 0} (P : Y → Type 0) (x y : Y) → ◌≡◌ {A = Result Y Error} (Ok x) (Ok y) → P x → P y

@@ -8,8 +8,8 @@ use Rattle.common.specs.declared.constants.DwOp.{DwOp}
 use Rattle.common.specs.declared.encoding.Encoding.{Encoding}
 use Rattle.common.specs.declared.encoding.Register.{Register as RegisterNumber}
 use Rattle.common.specs.declared.error.Error.{Error}
-use Rattle.common.specs.declared.error.Error.TheVariants.{ValueTooLarge, UnsupportedWordSize, InvalidAddress, InvalidReference, NoExpression}
-use Rattle.dwarf.specs.Fixed.{is_width}
+use Rattle.common.specs.declared.error.Error.TheVariants.{ValueTooLarge, UnsupportedWordSize}
+use Rattle.dwarf.specs.Fixed.{is_width, in_width}
 use Rattle.dwarf.specs.Tokens.{Tokens, done, code, unsigned, signed, fixed, displacement, block, short, reference, raw}
 use Rattle.op.specs.declared.operation.Data.{Data}
 use Rattle.op.specs.declared.operation.DebugInfoRef.{DebugInfoRef}
@@ -47,10 +47,10 @@ use Rattle.op.specs.declared.operation.Operation.TheVariants.{
 }
 use Rattle.rules.specs.Results.{and_then}
 use Rattle.rules.specs.Encode.{encode_op}
-use Rattle.rules.specs.Operands.{by_version, in_width, short_data_of, referred}
+use Rattle.rules.specs.Operands.{by_version, short_data_of, referred}
 use Rattle.rules.specs.Scope.{Scope, in_frame, in_unit, base_of, base_or_generic}
 use Rattle.rules.specs.Sizes.{pointer_size}
-use Rattle.rules.proofs.Results.{not_refused, value_is, first_step, last_step}
+use Rattle.rules.proofs.Results.{value_is, first_step, last_step}
 
 -- what is to be shown of an operation, its data and its tokens, for each row
 pub record Rows (e : Encoding) (s : Scope) (leads : Option ℕ → Result ℤ Error) (P : Operation → List ℕ → Tokens → Type 0) : Type 0 where
@@ -110,22 +110,22 @@ in_width_lem Q width n m h k = go (is_width width) refl h
   where
     fits : is_width width ≡ true → (b : Bool) → ltb n (256 ^ width) ≡ b → cond b (Ok n) (Err ValueTooLarge) ≡ Ok m → Q
     fits w true l g = let e : n ≡ m = value_is (λ x. n ≡ x) n m g refl in let l' = ltb-true n (256 ^ width) l in k e w (omega arith)
-    fits w false l g = not_refused Q ValueTooLarge m g
+    fits w false l g = absurd (cc)
 
     go : (b : Bool) → is_width width ≡ b → cond b (cond (ltb n (256 ^ width)) (Ok n) (Err ValueTooLarge)) (Err (UnsupportedWordSize width)) ≡ Ok m → Q
     go true w g = fits w (ltb n (256 ^ width)) refl g
-    go false w g = not_refused Q (UnsupportedWordSize width) m g
+    go false w g = absurd (cc)
 
 -- a reference that is not refused is to an entry, in a width that is supported
 referred_is : (Q : Tokens → Type 0) (s : Scope) (width : ℕ) (to : DebugInfoRef) (rest a : Tokens) → referred s width to rest ≡ Ok a →
     ((owner entry : ℕ) → to ≡ Entry owner entry → is_width width ≡ true → Q (reference width owner entry rest)) → Q a
-referred_is Q s width (Symbol symbol) rest a h k = not_refused (Q a) InvalidReference a h
-referred_is Q in_frame width (Entry owner entry) rest a h k = not_refused (Q a) InvalidReference a h
+referred_is Q s width (Symbol symbol) rest a h k = absurd (cc)
+referred_is Q in_frame width (Entry owner entry) rest a h k = absurd (cc)
 referred_is Q (in_unit start offsets) width (Entry owner entry) rest a h k = go (is_width width) refl h
   where
     go : (b : Bool) → is_width width ≡ b → cond b (Ok (reference width owner entry rest)) (Err (UnsupportedWordSize width)) ≡ Ok a → Q a
     go true fits g = value_is Q (reference width owner entry rest) a g (k owner entry refl fits)
-    go false odd g = not_refused (Q a) (UnsupportedWordSize width) a g
+    go false odd g = absurd (cc)
 
 -- data that is not refused has a length of one byte
 short_data : (Q : Type 0) (bs ds : List ℕ) → short_data_of bs ≡ Ok ds → (bs ≡ ds → length bs ≤ 255 → Q) → Q
@@ -133,7 +133,7 @@ short_data Q bs ds h k = go (leb (length bs) 255) refl h
   where
     go : (b : Bool) → leb (length bs) 255 ≡ b → cond b (Ok bs) (Err ValueTooLarge) ≡ Ok ds → Q
     go true fits g = k (value_is (λ xs. bs ≡ xs) bs ds g refl) (leb-true (length bs) 255 fits)
-    go false long g = not_refused Q ValueTooLarge ds g
+    go false long g = absurd (cc)
 
 module _ (e : Encoding) (s : Scope) (leads : Option ℕ → Result ℤ Error) (P : Operation → List ℕ → Tokens → Type 0) (rows : Rows e s leads P) where
   address_row : (x : AnAddress) (bs : List ℕ) (a : Tokens) → encode_op e s leads (Address x) bs ≡ Ok a → P (Address x) bs a
@@ -141,7 +141,7 @@ module _ (e : Encoding) (s : Scope) (leads : Option ℕ → Result ℤ Error) (P
       last_step (in_width e.address_size n) (λ m. code 0x03 (fixed e.address_size m done)) (P (Address (address.Constant n)) bs) a h
       (λ m is. in_width_lem (P (Address (address.Constant n)) bs (code 0x03 (fixed e.address_size m done))) e.address_size n m is
       (λ same w l. rw same (rows.of_address m bs w l)))
-  address_row (address.Symbol symbol addend) bs a h = not_refused (P (Address (address.Symbol symbol addend)) bs a) InvalidAddress a h
+  address_row (address.Symbol symbol addend) bs a h = absurd (cc)
 
   constant_type_row : (base : ℕ) (d : Data) (bs : List ℕ) (a : Tokens) → encode_op e s leads (ConstantType base d) bs ≡ Ok a → P (ConstantType base d) bs a
   constant_type_row base d bs a h =
@@ -219,7 +219,7 @@ module _ (e : Encoding) (s : Scope) (leads : Option ℕ → Result ℤ Error) (P
   by_rows (Reinterpret base) bs a h =
       last_step (base_or_generic s base) (λ n. code (by_version e 0xa9 0xf9) (unsigned n done)) (P (Reinterpret base) bs) a h
       (λ n is. rows.of_reinterpret base n bs is)
-  by_rows (EntryValue n) bs a h = not_refused (P (EntryValue n) bs a) NoExpression a h
+  by_rows (EntryValue n) bs a h = absurd (cc)
   by_rows (Register r) bs a h =
       value_is (P (Register r) bs) (cond (ltb r.0 32) (code (0x50 + r.0) done) (code 0x90 (unsigned r.0 done))) a h
       (chosen (P (Register r) bs) r.0 32 (code (0x50 + r.0) done) (code 0x90 (unsigned r.0 done)) (rows.of_register r bs) (rows.of_regx r bs))

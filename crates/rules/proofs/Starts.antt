@@ -9,13 +9,13 @@ use Rattle.rules.specs.Passes.{extent}
 use Rattle.rules.specs.Scope.{Scope}
 use Rattle.rules.specs.Sizes.{size_op, nested_size, size_tree, extent_op, extent_nested}
 use Rattle.rules.specs.Tree.{Store, Shape, single, nesting, shape, Tree, end, plain, nest, grow, rows}
-use Rattle.rules.proofs.Results.{not_refused, value_is}
+use Rattle.rules.proofs.Results.{value_is}
 
 -- a sum that is not refused is of two numbers that are not
 pub plus-parts : (x y : Result ℕ Error) (n : ℕ) → plus x y ≡ Ok n → (x ≡ Ok (amount x)) × (y ≡ Ok (amount y)) × (n ≡ amount x + amount y)
 plus-parts (Ok m) (Ok k) n h = (refl, refl, value_is (λ z. z ≡ m + k) (m + k) n h refl)
-plus-parts (Ok m) (Err refusal) n h = not_refused ((Ok m ≡ Ok m) × (Err refusal ≡ Ok 0) × (n ≡ m + 0)) refusal n h
-plus-parts (Err refusal) y n h = not_refused ((Err refusal ≡ Ok 0) × (y ≡ Ok (amount y)) × (n ≡ 0 + amount y)) refusal n h
+plus-parts (Ok m) (Err refusal) n h = absurd (cc)
+plus-parts (Err refusal) y n h = absurd (cc)
 
 -- where no size is refused, the extent is the size
 pub extent_is : (e : Encoding) (s : Scope) (t : Tree) (n : ℕ) → size_tree e s t ≡ Ok n → extent e s t ≡ n

@@ -4,7 +4,7 @@ use lib.IntN.{ -ℤ-+ℤ_cancel}
 use Rattle.std.proofs.lemmas.Bool.{ltb-true}
 use Rattle.common.specs.declared.encoding.Encoding.{Encoding}
 use Rattle.common.specs.declared.error.Error.{Error}
-use Rattle.common.specs.declared.error.Error.TheVariants.{ValueTooLarge, BadTarget, BranchOpen}
+use Rattle.common.specs.declared.error.Error.TheVariants.{ValueTooLarge, BadTarget}
 use Rattle.dwarf.specs.Leb.{uleb}
 use Rattle.dwarf.specs.Bytes.{size_of, joined}
 use Rattle.dwarf.specs.Tokens.{Tokens, done, code, nested}
@@ -21,7 +21,7 @@ use Rattle.dwarf.proofs.Joining.{size_joined}
 use Rattle.rules.proofs.Marks.{marks-joined}
 use Rattle.rules.proofs.OperationMarks.{Marked, operation_marks}
 use Rattle.rules.proofs.OperationSizes.{operation_size}
-use Rattle.rules.proofs.Results.{not_refused, value_is, first_step, last_step}
+use Rattle.rules.proofs.Results.{value_is, first_step, last_step}
 use Rattle.rules.proofs.Sizes.{tree_size}
 
 -- each branch names a place, and its displacement, which fits two bytes, leads there
@@ -45,7 +45,7 @@ Inside (nest y t) (k ∷ ks) =
 -- a displacement that is not refused leads to the place named
 displaced_aims : (hs : List ℕ) (after place : ℕ) (target : Option ℕ) (z : ℤ) (js : List Jump) (ks : List (Option ℕ)) →
     displaced hs after target ≡ Ok z → place + 2 ≡ after → Aim hs js ks → Aim hs (record { place = place; by = z } ∷ js) (target ∷ ks)
-displaced_aims hs after place None z js ks h e rest = not_refused ⊥ BranchOpen z h
+displaced_aims hs after place None z js ks h e rest = cc
 displaced_aims hs after place (Some k) z js ks h e rest = go (ltb k (length hs)) refl h
   where
     to : ℕ
@@ -58,11 +58,11 @@ displaced_aims hs after place (Some k) z js ks h e rest = go (ltb k (length hs))
     far below true fits g =
         value_is Goal (pos to -ℤ pos after) z g
         (below, ap (λ (n : ℕ). (pos to -ℤ pos after) +ℤ pos n) e ∙ -ℤ-+ℤ_cancel (pos to) (pos after), fits, rest)
-    far below false wide g = not_refused (Goal z) ValueTooLarge z g
+    far below false wide g = absurd (cc)
 
     go : (b : Bool) → ltb k (length hs) ≡ b → and_then (cond b (Ok to) (Err BadTarget)) (displacement_from after) ≡ Ok z → Goal z
     go true below g = far (ltb-true k (length hs) below) (in_two_bytes (pos to -ℤ pos after)) refl g
-    go false past g = not_refused (Goal z) BadTarget z g
+    go false past g = absurd (cc)
 
 -- what an operation's marks, in front of others, add
 pub record Added (hs : List ℕ) (p : ℕ) (k : Kind) (ks : List (Option ℕ)) (front ms : List Mark) : Type 0 where

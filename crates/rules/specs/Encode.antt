@@ -4,6 +4,7 @@ use Rattle.common.specs.Formats.{word_size}
 use Rattle.common.specs.declared.encoding.Encoding.{Encoding}
 use Rattle.common.specs.declared.error.Error.{Error}
 use Rattle.common.specs.declared.error.Error.TheVariants.{NoExpression}
+use Rattle.dwarf.specs.Fixed.{in_width}
 use Rattle.dwarf.specs.Bytes.{joined}
 use Rattle.dwarf.specs.Tokens.{Tokens, done, code, unsigned, signed, fixed, displacement, block, short, nested, raw}
 use Rattle.op.specs.declared.operation.Operation.{Operation}
@@ -41,7 +42,7 @@ use Rattle.rules.specs.Results.{and_then}
 use Rattle.rules.specs.Scope.{Scope, base_of, base_or_generic}
 use Rattle.rules.specs.Tree.{Tree, end, plain, nest}
 use Rattle.rules.specs.Sizes.{pointer_size, size_tree, extent_op, extent_nested}
-use Rattle.rules.specs.Operands.{by_version, in_width, address_in, short_data_of, referred, after_branch, displaced}
+use Rattle.rules.specs.Operands.{by_version, address_in, short_data_of, referred, after_branch, displaced}
 
 -- an operation that nests nothing, given its data; `leads` gives a branch's displacement; `nest` stands for an entry value
 abbrev pub encode_op : Encoding → Scope → (Option ℕ → Result ℤ Error) → Operation → List ℕ → Result Tokens Error

@@ -1,11 +1,11 @@
 -- Operands that depend on the encoding, on offsets or on other operations, with what refuses them.
-use Rattle.std.specs.Prelude.{ℕ, ◌+◌, ◌^◌, Bool, cond, List, length, ℤ, pos, negsuc, ◌-ℤ◌, Some, None, Ok, Err, Option, Result, nat_le, nat_lt, slice_index}
+use Rattle.std.specs.Prelude.{ℕ, ◌+◌, Bool, cond, List, length, ℤ, pos, negsuc, ◌-ℤ◌, Some, None, Ok, Err, Option, Result, nat_le, nat_lt, slice_index}
 use Rattle.common.specs.declared.address.Address.{Address}
 use Rattle.common.specs.declared.address.Address.TheVariants as address
 use Rattle.common.specs.declared.encoding.Encoding.{Encoding}
 use Rattle.common.specs.declared.error.Error.{Error}
 use Rattle.common.specs.declared.error.Error.TheVariants.{ValueTooLarge, UnsupportedWordSize, InvalidAddress, InvalidReference, BadTarget, BranchOpen}
-use Rattle.dwarf.specs.Fixed.{is_width}
+use Rattle.dwarf.specs.Fixed.{is_width, in_width}
 use Rattle.dwarf.specs.Tokens.{Tokens, reference}
 use Rattle.op.specs.declared.operation.DebugInfoRef.{DebugInfoRef}
 use Rattle.op.specs.declared.operation.DebugInfoRef.TheVariants.{Symbol, Entry}
@@ -15,10 +15,6 @@ use Rattle.rules.specs.Scope.{Scope, in_frame, in_unit}
 -- a code of version 5 and above, and GNU's code for the versions below
 abbrev pub by_version : Encoding → ℕ → ℕ → ℕ
 by_version e new old = cond (nat_lt e.version 5) old new
-
--- a number that a width holds, or the refusal: first of the width, then of the number
-abbrev pub in_width : ℕ → ℕ → Result ℕ Error
-in_width width n = cond (is_width width) (cond (nat_lt n (256 ^ width)) (Ok n) (Err ValueTooLarge)) (Err (UnsupportedWordSize width))
 
 -- an address that a width holds; a symbol has no number
 abbrev pub address_in : ℕ → Address → Result ℕ Error

@@ -1,67 +1,55 @@
 //! The text that a run prints.
 
+ghost use Rattle.std.specs.Prelude.{◌≡◌, ◌++◌, OnOk, string_bytes};
+ghost use Rattle.runner.specs.Printed.{answer_line, fault_line};
+
 use crate::answer::Answer;
 use crate::shown::Shown;
+use common::error::Error;
 use script::fault::Fault;
 use script::verb::Verb;
-use std::alloc::{AllocError, Global};
-use std::fmt;
-use std::fmt::Write;
+use std::alloc::AllocError;
 use writer::writer::Writer;
 
-/// There was no memory for the run.
-#[derive(Clone, Copy, Debug)]
-pub struct OutOfMemory;
-
-impl From<AllocError> for OutOfMemory {
-    fn from(_error: AllocError) -> OutOfMemory {
-        OutOfMemory
-    }
-}
-
-impl From<fmt::Error> for OutOfMemory {
-    fn from(_error: fmt::Error) -> OutOfMemory {
-        OutOfMemory
-    }
-}
+/// How many bytes are printed on a line.
+const ROW: usize = 16;
 
 /// Prints what a call answers: the line's number, its first word and the answer.
 pub fn print_answer(
     out: &mut String,
     line: usize,
     verb: Verb,
-    answer: Answer,
-) -> Result<(), OutOfMemory> {
+    answer: Result<Answer, Error>,
+) -> Result<(), AllocError>
+    ensures { OnOk result (string_bytes out.new ≡ string_bytes out.old ++ answer_line line verb answer) }
+{
     match answer {
-        Answer::Silent => Ok(()),
-        _ => {
-            let word = verb.word();
-            writeln!(out, "{line} {word} {answer}")?;
-            Ok(())
-        }
+        Ok(Answer::Silent) => Ok(()),
+        Ok(answer) => writeln!(out, "{line} {verb} {answer}"),
+        Err(error) => writeln!(out, "{line} {verb} refused {error}"),
     }
 }
 
 /// Prints an error of the script.
-pub fn print_fault(out: &mut String, line: usize, fault: Fault) -> Result<(), OutOfMemory> {
-    let what = fault.text();
-    writeln!(out, "{line} error: {what}")?;
-    Ok(())
+pub fn print_fault(out: &mut String, line: usize, fault: Fault) -> Result<(), AllocError>
+    ensures { OnOk result (string_bytes out.new ≡ string_bytes out.old ++ fault_line line fault) }
+{
+    writeln!(out, "{line} error: {fault}")
 }
 
 /// Prints a sink's bytes, 16 to a line.
-pub fn print_bytes<W: Writer + Shown>(out: &mut String, sink: &W) -> Result<(), OutOfMemory> {
-    let len = sink.len();
-    for offset in 0..len {
-        if offset % 16 == 0 {
-            write!(out, "{offset:08x}:")?;
-        }
-        if let Some(byte) = sink.byte_at(offset) {
+pub fn print_bytes<W: Writer + Shown>(out: &mut String, sink: &W) -> Result<(), AllocError> {
+    let heap = *out.allocator();
+    let bytes: Vec<u8> = (0..sink.len())
+        .filter_map(|offset| sink.byte_at(offset))
+        .collect(heap)?;
+    for (row, line) in bytes.chunks(ROW).enumerate() {
+        let offset = row * ROW;
+        write!(out, "{offset:08x}:")?;
+        for byte in line {
             write!(out, " {byte:02x}")?;
         }
-        if offset % 16 == 15 || offset + 1 == len {
-            writeln!(out)?;
-        }
+        writeln!(out)?;
     }
     Ok(())
 }

@@ -1,13 +1,13 @@
 //! A run of a script.
 
-ghost use Rattle.std.specs.Prelude.{◌≡◌, ℕ, ◌<◌, ◌≤◌, IfOk, MatchOption};
+ghost use Rattle.std.specs.Prelude.{◌≡◌, ℕ, ◌<◌, ◌≤◌, IfOk};
 ghost use Rattle.words.specs.Bytes.{denoted};
 ghost use Rattle.script.specs.Readers.{left};
 ghost use Rattle.runner.specs.Answers.{Written};
 ghost use Rattle.runner.specs.Endings.{Ends};
 
 use crate::answer::Answer;
-use crate::output::{OutOfMemory, print_answer, print_bytes, print_fault};
+use crate::output::{print_answer, print_bytes, print_fault};
 use crate::shown::Shown;
 use common::endianity::RunTimeEndian;
 use common::error::Error;
@@ -16,10 +16,9 @@ use script::fault::Fault;
 use script::item::Item;
 use script::reader::Reader;
 use script::stage::Stage;
-use script::verb::Verb;
 use sinks::buffer::BufferSink;
 use sinks::words::WordSink;
-use std::alloc::Global;
+use std::alloc::{AllocError, Global};
 use words::hex::Hex;
 use writer::writer::Writer;
 
@@ -29,15 +28,13 @@ const MOST_BYTES: u64 = 2_147_483_647;
 /// As much as a sink uses of a table of words.
 const MOST_WORDS: u64 = 536_870_911;
 
-/// How a run, or a part of one, ended.
+/// How a run ended.
 #[derive(Clone, Copy, PartialEq, Eq, Debug)]
 pub enum Ending {
     /// The script came to its end.
     Complete,
     /// A line was an error of the script.
     Faulty,
-    /// A line starts afresh.
-    Afresh,
 }
 
 /// What the lines before the first call make.
@@ -49,177 +46,150 @@ struct Setup {
 }
 
 /// What is made without such lines.
-fn unmade() -> Setup {
-    Setup {
-        sink: SinkKind::Bytes {
-            capacity: 65_536,
-            endian: RunTimeEndian::Little,
-        },
-        book: BookLengths {
-            operations: 4_096,
-            data: 65_535,
-        },
-        stage: Stage::start(),
+impl Default for Setup {
+    fn default() -> Setup {
+        Setup {
+            sink: SinkKind::Bytes {
+                capacity: 65_536,
+                endian: RunTimeEndian::Little,
+            },
+            book: BookLengths {
+                operations: 4_096,
+                data: 65_535,
+            },
+            stage: Stage::start(),
+        }
     }
 }
 
-/// What is made with one more line, unless it is another line or comes too late.
-fn with_line(setup: Setup, command: Command<'_>) -> Option<Setup> {
-    let stage = setup.stage.after(command.verb().part()).ok()?;
-    match command {
-        Command::Sink(sink) => Some(Setup {
+impl Setup {
+    /// What is made with one more line, unless it is another line, is an error or comes too late.
+    fn with_line(self, item: Item<'_>) -> Option<Setup> {
+        let command = item.command.ok()?;
+        let stage = self.stage.after(command.verb().part()).ok()?;
+        match command {
+            Command::Sink(sink) => Some(Setup {
+                sink,
+                stage,
+                ..self
+            }),
+            Command::Book(book) => Some(Setup {
+                book,
+                stage,
+                ..self
+            }),
+            _ => None,
+        }
+    }
+
+    /// What the first of some lines make.
+    fn of_lines(lines: Reader<'_>) -> Setup {
+        let mut setup = Setup::default();
+        for item in lines {
+            let Some(next) = setup.with_line(item) else {
+                break;
+            };
+            setup = next;
+        }
+        setup
+    }
+}
+
+/// A sink on which lines are carried out, and the text that they print.
+#[derive(Drop)]
+struct Machine<'a, W> {
+    heap: Global,
+    sink: W,
+    stage: Stage,
+    out: &'a mut String,
+}
+
+impl<'a, W: Writer + Shown> Machine<'a, W> {
+    /// A machine that no line was carried out on.
+    fn new(heap: Global, sink: W, out: &'a mut String) -> Machine<'a, W> {
+        Machine {
+            heap,
             sink,
-            stage,
-            ..setup
-        }),
-        Command::Book(book) => Some(Setup {
-            book,
-            stage,
-            ..setup
-        }),
-        _ => None,
+            stage: Stage::start(),
+            out,
+        }
+    }
+
+    /// Writes bytes to the sink.
+    fn write(&mut self, bytes: Hex<'_>, done: Answer) -> Result<Result<Answer, Error>, AllocError>
+        ensures { IfOk result (λ a. Written done (denoted bytes.entry) (W.Writer.means self.old.sink) a (W.Writer.means self.new.sink)) }
+    {
+        let bytes = bytes.decode(self.heap)?;
+        Ok(self.sink.write(bytes.as_slice()).map(|()| done))
+    }
+
+    /// Carries out a line, and prints what it answers.
+    fn carry_out(&mut self, line: usize, command: Command<'_>) -> Result<(), AllocError> {
+        let answer = match command {
+            Command::Hold(bytes) => self.write(bytes, Answer::Silent)?,
+            Command::Append(bytes) => self.write(bytes, Answer::Done)?,
+            Command::Dump => Ok(Answer::Number(self.sink.len())),
+            Command::New | Command::Sink(_) | Command::Book(_) => Ok(Answer::Silent),
+        };
+        print_answer(self.out, line, command.verb(), answer)?;
+        if let Command::Dump = command {
+            print_bytes(self.out, &self.sink)?;
+        }
+        Ok(())
+    }
+
+    /// The command of a line, unless it is an error of the script or comes too late.
+    fn admit<'b>(&mut self, item: Item<'b>) -> Result<Command<'b>, Fault> {
+        let command = item.command?;
+        self.stage = self.stage.after(command.verb().part())?;
+        Ok(command)
+    }
+
+    /// Carries out the lines up to one that starts afresh, or answers how the run ends.
+    fn run(&mut self, lines: &mut Reader<'_>) -> Result<Option<Ending>, AllocError>
+        ensures { IfOk result (λ e. Ends e (left lines.old) (left lines.new)) }
+    {
+        while let Some(item) = lines.next() {
+            match self.admit(item) {
+                Ok(Command::New) => return Ok(None),
+                Ok(command) => self.carry_out(item.line, command)?,
+                Err(fault) => {
+                    print_fault(self.out, item.line, fault)?;
+                    return Ok(Some(Ending::Faulty));
+                }
+            }
+        }
+        Ok(Some(Ending::Complete))
     }
 }
 
-/// Reads the next line if it makes the sink or the book.
-fn read_making(setup: Setup, reader: &mut Reader<'_>) -> Option<Setup>
-    ensures { MatchOption result (left reader.new ≤ left reader.old) (λ _. left reader.new < left reader.old) }
-{
-    let mut ahead = *reader;
-    let item = ahead.next()?;
-    let next = with_line(setup, item.command.ok()?)?;
-    *reader = ahead;
-    Some(next)
-}
-
-/// Reads the lines that make the sink and the book.
-fn set_up(reader: &mut Reader<'_>) -> Setup
-    ensures { left reader.new ≤ left reader.old }
-{
-    let mut setup = unmade();
-    while let Some(next) = read_making(setup, reader) {
-        setup = next;
-    }
-    setup
-}
-
-/// Writes bytes to a sink.
-fn write_bytes<W: Writer>(
+/// Carries out a part of the script, up to a line that starts afresh, or answers how the run ends.
+fn run_part(
     heap: Global,
-    sink: &mut W,
-    bytes: Hex<'_>,
-    done: Answer,
-) -> Result<Answer, OutOfMemory>
-    ensures { IfOk result (λ a. Written done (denoted bytes.entry) (W.Writer.means sink.old) a (W.Writer.means sink.new)) }
-{
-    let bytes = bytes.decode(heap)?;
-    match sink.write(bytes.as_slice()) {
-        Ok(()) => Ok(done),
-        Err(error) => Ok(Answer::Refused(error)),
-    }
-}
-
-/// Carries out a line on a sink, and prints what it answers.
-fn carry_out<W: Writer + Shown>(
-    heap: Global,
-    sink: &mut W,
-    line: usize,
-    command: Command<'_>,
+    lines: &mut Reader<'_>,
     out: &mut String,
-) -> Result<(), OutOfMemory> {
-    let verb = command.verb();
-    match command {
-        Command::Hold(bytes) => {
-            let answer = write_bytes(heap, sink, bytes, Answer::Silent)?;
-            print_answer(out, line, verb, answer)
-        }
-        Command::Append(bytes) => {
-            let answer = write_bytes(heap, sink, bytes, Answer::Done)?;
-            print_answer(out, line, verb, answer)
-        }
-        Command::Dump => {
-            print_answer(out, line, verb, Answer::Number(sink.len()))?;
-            print_bytes(out, sink)
-        }
-        Command::New | Command::Sink(_) | Command::Book(_) => Ok(()),
-    }
-}
-
-/// The command of a line, unless it is an error of the script or comes too late.
-fn admitted<'a>(setup: &mut Setup, item: Item<'a>) -> Result<Command<'a>, Fault> {
-    let command = item.command?;
-    setup.stage = setup.stage.after(command.verb().part())?;
-    if let Command::Book(book) = command {
-        setup.book = book;
-    }
-    Ok(command)
-}
-
-/// Carries out a line, and answers how the part of the script ends, if it does.
-fn run_line<W: Writer + Shown>(
-    heap: Global,
-    sink: &mut W,
-    setup: &mut Setup,
-    item: Item<'_>,
-    out: &mut String,
-) -> Result<Option<Ending>, OutOfMemory> {
-    match admitted(setup, item) {
-        Ok(Command::New) => Ok(Some(Ending::Afresh)),
-        Ok(command) => {
-            carry_out(heap, sink, item.line, command, out)?;
-            Ok(None)
-        }
-        Err(fault) => {
-            print_fault(out, item.line, fault)?;
-            Ok(Some(Ending::Faulty))
-        }
-    }
-}
-
-/// Carries out the lines on a sink, up to one that starts afresh.
-fn run_calls<W: Writer + Shown>(
-    heap: Global,
-    sink: &mut W,
-    setup: Setup,
-    reader: &mut Reader<'_>,
-    out: &mut String,
-) -> Result<Ending, OutOfMemory>
-    ensures { IfOk result (λ e. Ends e (left reader.old) (left reader.new)) }
+) -> Result<Option<Ending>, AllocError>
+    ensures { IfOk result (λ e. Ends e (left lines.old) (left lines.new)) }
 {
-    let mut setup = setup;
-    while let Some(item) = reader.next() {
-        if let Some(ending) = run_line(heap, sink, &mut setup, item, out)? {
-            return Ok(ending);
-        }
-    }
-    Ok(Ending::Complete)
-}
-
-/// Carries out a part of the script, up to a line that starts afresh.
-fn run_part(heap: Global, reader: &mut Reader<'_>, out: &mut String) -> Result<Ending, OutOfMemory>
-    ensures { IfOk result (λ e. Ends e (left reader.old) (left reader.new)) }
-{
-    let setup = set_up(reader);
-    match setup.sink {
+    match Setup::of_lines(*lines).sink {
         SinkKind::Bytes { capacity, endian } => {
             let mut table = vec![in heap; 0u8; capacity.min(MOST_BYTES) as usize]?;
-            let mut sink = BufferSink::new(&mut table, endian);
-            run_calls(heap, &mut sink, setup, reader, out)
+            let sink = BufferSink::new(&mut table, endian);
+            Machine::new(heap, sink, out).run(lines)
         }
         SinkKind::Words { count } => {
             let mut table = vec![in heap; 0u32; count.min(MOST_WORDS) as usize]?;
-            let mut sink = WordSink::new(&mut table);
-            run_calls(heap, &mut sink, setup, reader, out)
+            let sink = WordSink::new(&mut table);
+            Machine::new(heap, sink, out).run(lines)
         }
     }
 }
 
 /// Runs a script, and adds what it prints to `out`.
-pub fn run(heap: Global, script: &[u8], out: &mut String) -> Result<Ending, OutOfMemory> {
-    let mut reader = Reader::new(script);
+pub fn run(heap: Global, script: &[u8], out: &mut String) -> Result<Ending, AllocError> {
+    let mut lines = Reader::new(script);
     loop {
-        let ending = run_part(heap, &mut reader, out)?;
-        if ending != Ending::Afresh {
+        if let Some(ending) = run_part(heap, &mut lines, out)? {
             return Ok(ending);
         }
     }

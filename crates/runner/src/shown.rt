@@ -1,12 +1,11 @@
 //! Sinks whose bytes can be read back.
 
-ghost use Rattle.std.specs.Prelude.{◌≡◌, ℕ, true, Option as Maybe};
-ghost use Rattle.common.specs.Orders.{big_of};
+ghost use Rattle.std.specs.Prelude.{◌≡◌, ℕ, Option as Maybe};
 ghost use Rattle.sinks.specs.Lent.{lent, byte_at};
-ghost use Rattle.sinks.specs.Words.{spread};
 
-use sinks::buffer::BufferSink;
-use sinks::words::WordSink;
+use common::endianity::Endianity;
+use sinks::sink::TableSink;
+use sinks::table::Table;
 
 /// A sink whose bytes can be read back.
 pub trait Shown {
@@ -18,18 +17,10 @@ pub trait Shown {
         ensures { result ≡ shows self.now offset };
 }
 
-impl<'a> Shown for BufferSink<'a> {
-    ghost shows = { λ s at. byte_at (lent s.table.now 2147483647 s.len (big_of s.endian)) at };
+impl<T: Table, E: Endianity> Shown for TableSink<T, E> {
+    ghost shows = { λ s at. byte_at (lent (T.Table.bytes s.table) T.Table.most s.len (E.Endianity.big s.endian)) at };
 
     fn byte_at(&self, offset: usize) -> Option<u8> {
-        BufferSink::byte_at(self, offset)
-    }
-}
-
-impl<'a> Shown for WordSink<'a> {
-    ghost shows = { λ s at. byte_at (lent (spread s.table.now) 2147483644 s.len true) at };
-
-    fn byte_at(&self, offset: usize) -> Option<u8> {
-        WordSink::byte_at(self, offset)
+        TableSink::byte_at(self, offset)
     }
 }

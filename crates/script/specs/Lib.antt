@@ -4,3 +4,4 @@ pub mod Commands
 pub mod Stages
 pub mod Items
 pub mod Readers
+pub mod Faults

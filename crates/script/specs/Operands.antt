@@ -3,7 +3,6 @@ use Rattle.std.specs.Prelude.{ℕ, ◌-◌, ◌^◌, cond, List, [], ◌∷◌, 
 use Rattle.std.specs.Str.{bytes_eq}
 use Rattle.common.specs.declared.endianity.RunTimeEndian.{RunTimeEndian}
 use Rattle.common.specs.declared.endianity.RunTimeEndian.TheVariants.{Little, Big}
-use Rattle.words.specs.declared.text.Split.{Split}
 use Rattle.words.specs.Numbers.{number_of}
 
 -- what a command has without further words
@@ -20,10 +19,6 @@ single f (w ∷ ws) = elim (alone w ws) [ Some v ↦ f v | None ↦ None ]
 abbrev pub double : {A : Type 0} → (List ℕ → List ℕ → Option A) → List (List ℕ) → Option A
 double f [] = None
 double f (v ∷ ws) = single (f v) ws
-
--- the two parts of a text that was cut
-abbrev pub parts : Split → List ℕ × List ℕ
-parts s = (s.first.now, s.rest.now)
 
 -- two values, where both are there
 abbrev pub both : {A B C : Type 0} → (A → B → C) → Option A → Option B → Option C

@@ -3,7 +3,7 @@
 ghost use Rattle.std.specs.Prelude.{◌≡◌, ℕ};
 ghost use Rattle.std.specs.Option.{option_map};
 ghost use Rattle.std.specs.Result.{result_ok};
-ghost use Rattle.words.specs.Bytes.{hex_of, denoted};
+ghost use Rattle.words.specs.Bytes.{denoted};
 ghost use Rattle.words.specs.Text.{words_in, words_of};
 ghost use Rattle.script.specs.Operands.{single, double};
 ghost use Rattle.script.specs.Verbs.{word_for};
@@ -14,7 +14,7 @@ use crate::operand::{bytes, no_word, number, one_word, order, two_words};
 use crate::verb::Verb;
 use common::endianity::RunTimeEndian;
 use words::hex::Hex;
-use words::text::{is, next_word, without_comment};
+use words::text::{next_word, without_comment};
 
 /// Which sink is made, over a table of which length.
 #[derive(Clone, Copy)]
@@ -76,75 +76,45 @@ impl Command<'_> {
 }
 
 /// The buffer sink, of a capacity and an order.
-fn byte_sink(capacity: &[u8], endian: &[u8]) -> Result<SinkKind, Fault>
-    ensures { result_ok result ≡ byte_sink capacity.now endian.now }
+fn byte_sink(text: &[u8]) -> Result<SinkKind, Fault>
+    ensures { result_ok result ≡ double byte_sink (words_in text.now) }
 {
-    let capacity = number(capacity)?;
-    let endian = order(endian)?;
-    Ok(SinkKind::Bytes { capacity, endian })
+    let (capacity, endian) = two_words(text)?;
+    Ok(SinkKind::Bytes {
+        capacity: number(capacity)?,
+        endian: order(endian)?,
+    })
 }
 
 /// The word sink, of a count of words.
-fn word_sink(count: &[u8]) -> Result<SinkKind, Fault>
-    ensures { result_ok result ≡ word_sink count.now }
+fn word_sink(text: &[u8]) -> Result<SinkKind, Fault>
+    ensures { result_ok result ≡ single word_sink (words_in text.now) }
 {
-    let count = number(count)?;
+    let count = number(one_word(text)?)?;
     Ok(SinkKind::Words { count })
 }
 
-/// The buffer sink of the words that are left.
-fn byte_sink_of(text: &[u8]) -> Result<SinkKind, Fault>
-    ensures { result_ok result ≡ double byte_sink (words_in text.now) }
-{
-    let words = two_words(text)?;
-    byte_sink(words.first, words.rest)
-}
-
-/// The word sink of the word that is left.
-fn word_sink_of(text: &[u8]) -> Result<SinkKind, Fault>
-    ensures { result_ok result ≡ single word_sink (words_in text.now) }
-{
-    word_sink(one_word(text)?)
-}
-
 /// The sink of the words that are left.
-fn sink_of(text: &[u8]) -> Result<SinkKind, Fault>
+fn sink(text: &[u8]) -> Result<SinkKind, Fault>
     ensures { result_ok result ≡ sink_of (words_in text.now) }
 {
-    let Some(split) = next_word(text) else {
-        return Err(Fault::WordCount);
-    };
-    if is(split.first, b"bytes") {
-        byte_sink_of(split.rest)
-    } else if is(split.first, b"words") {
-        word_sink_of(split.rest)
-    } else {
-        Err(Fault::BadSink)
+    let split = next_word(text).ok_or(Fault::WordCount)?;
+    match split.first {
+        b"bytes" => byte_sink(split.rest),
+        b"words" => word_sink(split.rest),
+        _ => Err(Fault::BadSink),
     }
 }
 
 /// A book, of two lengths.
-fn book_lengths(operations: &[u8], data: &[u8]) -> Result<BookLengths, Fault>
-    ensures { result_ok result ≡ book_lengths operations.now «data».now }
-{
-    let operations = number(operations)?;
-    let data = number(data)?;
-    Ok(BookLengths { operations, data })
-}
-
-/// The book of the words that are left.
-fn book_of(text: &[u8]) -> Result<BookLengths, Fault>
+fn book(text: &[u8]) -> Result<BookLengths, Fault>
     ensures { result_ok result ≡ double book_lengths (words_in text.now) }
 {
-    let words = two_words(text)?;
-    book_lengths(words.first, words.rest)
-}
-
-/// The bytes of the word that is left.
-fn bytes_of(text: &[u8]) -> Result<Hex<'_>, Fault>
-    ensures { option_map denoted (result_ok result) ≡ single hex_of (words_in text.now) }
-{
-    bytes(one_word(text)?)
+    let (operations, data) = two_words(text)?;
+    Ok(BookLengths {
+        operations: number(operations)?,
+        data: number(data)?,
+    })
 }
 
 /// The command of a verb and the words that follow it.
@@ -156,10 +126,10 @@ fn with_operands(verb: Verb, text: &[u8]) -> Result<Command<'_>, Fault>
             no_word(text)?;
             Ok(Command::New)
         }
-        Verb::Sink => Ok(Command::Sink(sink_of(text)?)),
-        Verb::Book => Ok(Command::Book(book_of(text)?)),
-        Verb::Hold => Ok(Command::Hold(bytes_of(text)?)),
-        Verb::Append => Ok(Command::Append(bytes_of(text)?)),
+        Verb::Sink => Ok(Command::Sink(sink(text)?)),
+        Verb::Book => Ok(Command::Book(book(text)?)),
+        Verb::Hold => Ok(Command::Hold(bytes(one_word(text)?)?)),
+        Verb::Append => Ok(Command::Append(bytes(one_word(text)?)?)),
         Verb::Dump => {
             no_word(text)?;
             Ok(Command::Dump)
@@ -174,8 +144,6 @@ pub fn parse(line: &[u8]) -> Result<Option<Command<'_>>, Fault>
     let Some(split) = next_word(without_comment(line)) else {
         return Ok(None);
     };
-    match Verb::parse(split.first) {
-        Some(verb) => Ok(Some(with_operands(verb, split.rest)?)),
-        None => Err(Fault::UnknownCommand),
-    }
+    let verb = Verb::parse(split.first).ok_or(Fault::UnknownCommand)?;
+    Ok(Some(with_operands(verb, split.rest)?))
 }

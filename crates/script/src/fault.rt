@@ -1,5 +1,11 @@
 //! Errors of the script.
 
+ghost use Rattle.std.specs.Prelude.{Some};
+ghost use Rattle.script.specs.Faults.{fault_text};
+
+use std::error::Error;
+use std::fmt;
+
 /// Why a line is an error of the script.
 #[derive(Clone, Copy, Debug, PartialEq, Eq)]
 pub enum Fault {
@@ -19,10 +25,11 @@ pub enum Fault {
     TooLate,
 }
 
-impl Fault {
-    /// What is printed of the error.
-    pub fn text(self) -> &'static str {
-        match self {
+impl fmt::Display for Fault {
+    ghost output = { λ fault. Some (fault_text fault) };
+
+    fn fmt<W: fmt::Write>(&self, f: &mut fmt::Formatter<W>) -> fmt::Result {
+        f.write_str(match self {
             Fault::UnknownCommand => "no such command",
             Fault::WordCount => "wrong count of words",
             Fault::BadNumber => "not a number, or out of range",
@@ -30,6 +37,8 @@ impl Fault {
             Fault::BadOrder => "neither little nor big",
             Fault::BadSink => "neither bytes nor words",
             Fault::TooLate => "comes too late",
-        }
+        })
     }
 }
+
+impl Error for Fault {}

@@ -1,17 +1,17 @@
 //! The words that follow a command's first.
 
-ghost use Rattle.std.specs.Prelude.{◌≡◌, ℕ, Some};
+ghost use Rattle.std.specs.Prelude.{◌≡◌, ℕ, List, Some};
 ghost use Rattle.std.specs.Option.{option_map};
 ghost use Rattle.std.specs.Result.{result_ok};
 ghost use Rattle.words.specs.Bytes.{hex_of, denoted};
 ghost use Rattle.words.specs.Text.{words_in};
-ghost use Rattle.script.specs.Operands.{alone, single, double, parts, order_of, number64};
+ghost use Rattle.script.specs.Operands.{alone, single, double, order_of, number64};
 
 use crate::fault::Fault;
 use common::endianity::RunTimeEndian;
 use words::hex::Hex;
 use words::number::unsigned;
-use words::text::{Split, is, next_word};
+use words::text::next_word;
 
 /// That no word is left.
 pub(crate) fn no_word(text: &[u8]) -> Result<(), Fault>
@@ -27,25 +27,17 @@ pub(crate) fn no_word(text: &[u8]) -> Result<(), Fault>
 pub(crate) fn one_word(text: &[u8]) -> Result<&[u8], Fault>
     ensures { option_map (λ x. x.now) (result_ok result) ≡ single Some (words_in text.now) }
 {
-    let Some(split) = next_word(text) else {
-        return Err(Fault::WordCount);
-    };
+    let split = next_word(text).ok_or(Fault::WordCount)?;
     no_word(split.rest)?;
     Ok(split.first)
 }
 
 /// The two words that are left.
-pub(crate) fn two_words(text: &[u8]) -> Result<Split<'_>, Fault>
-    ensures { option_map parts (result_ok result) ≡ double (λ v w. Some (v, w)) (words_in text.now) }
+pub(crate) fn two_words(text: &[u8]) -> Result<(&[u8], &[u8]), Fault>
+    ensures { option_map {U = List ℕ × List ℕ} (λ p. (p.0.now, p.1.now)) (result_ok result) ≡ double (λ v w. Some (v, w)) (words_in text.now) }
 {
-    let Some(split) = next_word(text) else {
-        return Err(Fault::WordCount);
-    };
-    let rest = one_word(split.rest)?;
-    Ok(Split {
-        first: split.first,
-        rest,
-    })
+    let split = next_word(text).ok_or(Fault::WordCount)?;
+    Ok((split.first, one_word(split.rest)?))
 }
 
 /// A word that is a number of 64 bits.
@@ -66,11 +58,9 @@ pub(crate) fn bytes(word: &[u8]) -> Result<Hex<'_>, Fault>
 pub(crate) fn order(word: &[u8]) -> Result<RunTimeEndian, Fault>
     ensures { result_ok result ≡ order_of word.now }
 {
-    if is(word, b"little") {
-        Ok(RunTimeEndian::Little)
-    } else if is(word, b"big") {
-        Ok(RunTimeEndian::Big)
-    } else {
-        Err(Fault::BadOrder)
+    match word {
+        b"little" => Ok(RunTimeEndian::Little),
+        b"big" => Ok(RunTimeEndian::Big),
+        _ => Err(Fault::BadOrder),
     }
 }

@@ -1,8 +1,8 @@
 //! A script, read from line to line.
 
-ghost use Rattle.std.specs.Prelude.{◌≡◌, ℕ, ◌+◌, ◌^◌, ◌<◌, ◌≤◌, [], ◌∷◌, length, MatchOption, OnSome};
+ghost use Rattle.std.specs.Prelude.{◌≡◌, ℕ, ◌+◌, ◌^◌, ◌<◌, ◌≤◌, length};
 ghost use Rattle.words.specs.Text.{lines_of};
-ghost use Rattle.script.specs.Items.{items_after, numbered};
+ghost use Rattle.script.specs.Items.{items_after};
 
 use crate::command::parse;
 use crate::item::Item;
@@ -26,25 +26,28 @@ impl<'a> Reader<'a> {
             line: 0,
         }
     }
+}
 
-    /// The next line that has words.
-    pub fn next(&mut self) -> Option<Item<'a>>
-        ensures items { MatchOption result (items_after self.old.line (lines_of self.old.rest.now) ≡ []) (λ i. items_after self.old.line (lines_of self.old.rest.now) ≡ numbered i ∷ items_after self.new.line (lines_of self.new.rest.now)) }
-        ensures shorter { OnSome result (length self.new.rest.now < length self.old.rest.now) }
-    {
+/// The lines that have words.
+impl<'a> Iterator for Reader<'a> {
+    type Item = Item<'a>;
+
+    ghost use Rattle.std.specs.Iterator.{item_count};
+    ghost use Rattle.script.specs.Readers.{items_left, GivesItem};
+
+    ghost next_gives = { GivesItem };
+
+    ghost remaining = { item_count items_left };
+
+    fn next(&mut self) -> Option<Item<'a>> {
         while let Some(split) = next_line(self.rest) {
             self.rest = split.rest;
             self.line += 1;
-            match parse(split.first) {
-                Ok(None) => {}
-                Ok(Some(command)) => return Some(Item {
+            if let Some(command) = parse(split.first).transpose() {
+                return Some(Item {
                     line: self.line,
-                    command: Ok(command),
-                }),
-                Err(fault) => return Some(Item {
-                    line: self.line,
-                    command: Err(fault),
-                }),
+                    command,
+                });
             }
         }
         None

@@ -1,9 +1,9 @@
 //! The first words of commands.
 
-ghost use Rattle.std.specs.Prelude.{◌≡◌, ℕ};
+ghost use Rattle.std.specs.Prelude.{◌≡◌, ℕ, Some};
 ghost use Rattle.script.specs.Verbs.{word_for, part_of, verb_of};
 
-use words::text::is;
+use std::fmt;
 
 /// The first word of a command.
 #[derive(Clone, Copy, PartialEq, Eq, Debug)]
@@ -79,11 +79,18 @@ impl Verb {
     pub fn parse(word: &[u8]) -> Option<Verb>
         ensures { result ≡ verb_of word.now }
     {
-        for verb in &VERBS {
-            if is(word, verb.word().as_bytes()) {
-                return Some(*verb);
-            }
-        }
-        None
+        VERBS
+            .iter()
+            .copied()
+            .find(|verb| word == verb.word().as_bytes())
+    }
+}
+
+/// The word that the verb is written as.
+impl fmt::Display for Verb {
+    ghost output = { λ v. Some (word_for v) };
+
+    fn fmt<W: fmt::Write>(&self, f: &mut fmt::Formatter<W>) -> fmt::Result {
+        f.write_str(self.word())
     }
 }

@@ -1,11 +1,12 @@
 -- Calls that a program makes and the answers that it gets, as the rules have them.
-use Rattle.std.specs.Prelude.{List, [], ◌∷◌, ◌++◌}
-use Rattle.book_state.specs.State as book
+use Rattle.std.specs.Prelude.{List, [], ◌∷◌, ◌++◌, Ok, Err, Result}
+use Rattle.common.specs.declared.error.Error.{Error}
+use Rattle.book.specs.Holds.{holds}
 use Rattle.expression.specs.Sealed.{tree_at}
 use Rattle.section.specs.declared.calls.Call.{Call as Given}
 use Rattle.section.specs.declared.calls.Call.TheVariants.{BeginUnit, Append, Place, Size, SizeFrame, Write, WriteFrame, Fill, Finish, Pending}
 use Rattle.section.specs.declared.calls.Answer.{Answer as Got}
-use Rattle.section.specs.declared.calls.Answer.TheVariants.{Done, Number, Row, Refused}
+use Rattle.section.specs.declared.calls.Answer.TheVariants.{Done, Number, Row}
 use Rattle.claim.specs.Section.{State, New}
 use Rattle.claim.specs.Calls.{
   Call,
@@ -29,31 +30,31 @@ use Rattle.claim.specs.Calls.{
 use Rattle.claim.specs.History.{fills}
 use Rattle.claim.specs.Claim.{Made, made, calls, Runs, Told, Kept}
 
--- a call, with the expressions of a book in place of their numbers
-abbrev pub call_of : book.State → Given → Call
-call_of b (BeginUnit e) = begin_unit e
-call_of b (Append bytes) = append bytes.now
-call_of b (Place entry) = place_entry entry
-call_of b (Size n) = ask_size (tree_at b n)
-call_of b (SizeFrame n e) = ask_frame_size (tree_at b n) e
-call_of b (Write n) = write (tree_at b n)
-call_of b (WriteFrame n e) = write_frame (tree_at b n) e
-call_of b (Fill offset) = fill offset
-call_of b Finish = finish
-call_of b (Pending index) = ask_pending index
+-- a call, with its expression in place of the book and the number
+abbrev pub call_of : Given → Call
+call_of (BeginUnit e) = begin_unit e
+call_of (Append bytes) = append bytes.now
+call_of (Place entry) = place_entry entry
+call_of (Size b n) = ask_size (tree_at (holds b.now) n)
+call_of (SizeFrame b n e) = ask_frame_size (tree_at (holds b.now) n) e
+call_of (Write b n) = write (tree_at (holds b.now) n)
+call_of (WriteFrame b n e) = write_frame (tree_at (holds b.now) n) e
+call_of (Fill offset) = fill offset
+call_of Finish = finish
+call_of (Pending index) = ask_pending index
 
 -- an answer
-abbrev pub answer_of : Got → Answer
-answer_of Done = ok
-answer_of (Number n) = number n
-answer_of (Row p) = row p
-answer_of (Refused e) = refusal e
+abbrev pub answer_of : Result Got Error → Answer
+answer_of (Ok Done) = ok
+answer_of (Ok (Number n)) = number n
+answer_of (Ok (Row p)) = row p
+answer_of (Err e) = refusal e
 
 -- calls and their answers, the last first; as many as there are of both
-abbrev pub all_made : book.State → List Given → List Got → List Made
-all_made b [] rs = []
-all_made b (c ∷ cs) [] = []
-all_made b (c ∷ cs) (a ∷ rs) = all_made b cs rs ++ (made (call_of b c) (answer_of a) ∷ [])
+abbrev pub all_made : List Given → List (Result Got Error) → List Made
+all_made [] rs = []
+all_made (c ∷ cs) [] = []
+all_made (c ∷ cs) (a ∷ rs) = all_made cs rs ++ (made (call_of c) (answer_of a) ∷ [])
 
 -- what holds where calls were made behind a run that led from a new section to m
 pub record Onward (s₀ : State) (ds : List Made) (m : State) (es : List Made) (s : State) : Type 0 where
@@ -62,6 +63,6 @@ pub record Onward (s₀ : State) (ds : List Made) (m : State) (es : List Made) (
   pub kept : Kept m.bytes s.bytes (fills (history m (calls es)))
 
 -- the calls answer and leave what the rules say, and they carry the claim on
-pub record Ran (b : book.State) (m : State) (cs : List Given) (rs : List Got) (s : State) : Type 0 where
-  pub followed : Runs m (all_made b cs rs) s
-  pub carried : (s₀ : State) (ds : List Made) → New s₀ → Runs s₀ ds m → Onward s₀ ds m (all_made b cs rs) s
+pub record Ran (m : State) (cs : List Given) (rs : List (Result Got Error)) (s : State) : Type 0 where
+  pub followed : Runs m (all_made cs rs) s
+  pub carried : (s₀ : State) (ds : List Made) → New s₀ → Runs s₀ ds m → Onward s₀ ds m (all_made cs rs) s

@@ -1,10 +1,10 @@
 //! The calls of a section and their answers, as values.
 
+use book::book::Book;
 use common::encoding::Encoding;
-use common::error::Error;
 use common::fixup::DebugInfoFixup;
 
-/// A call of a section. An expression goes by its number in a book.
+/// A call of a section. An expression goes by its book and its number there.
 #[derive(Clone, Copy)]
 pub enum Call<'b> {
     /// `begin_unit`
@@ -14,13 +14,13 @@ pub enum Call<'b> {
     /// `place`
     Place(usize),
     /// `size`
-    Size(usize),
+    Size(&'b Book<'b>, usize),
     /// `size_frame`
-    SizeFrame(usize, Encoding),
+    SizeFrame(&'b Book<'b>, usize, Encoding),
     /// `write`
-    Write(usize),
+    Write(&'b Book<'b>, usize),
     /// `write_frame`
-    WriteFrame(usize, Encoding),
+    WriteFrame(&'b Book<'b>, usize, Encoding),
     /// `fill`
     Fill(usize),
     /// `finish`
@@ -29,7 +29,7 @@ pub enum Call<'b> {
     Pending(usize),
 }
 
-/// What a call answers.
+/// What a call answers that is not refused.
 #[derive(Clone, Copy)]
 pub enum Answer {
     /// That it is done.
@@ -38,6 +38,4 @@ pub enum Answer {
     Number(usize),
     /// A pending reference, or nothing past the last.
     Row(Option<DebugInfoFixup>),
-    /// The refusal.
-    Refused(Error),
 }

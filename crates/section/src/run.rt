@@ -1,72 +1,46 @@
 //! Calls made one after the other.
 
 ghost use Rattle.std.specs.Prelude.{◌≡◌, length, drop};
-ghost use Rattle.book.specs.Holds.{holds};
-ghost use Rattle.claim.specs.Claim.{Stepped, plainly, counted};
-ghost use Rattle.section_tables.specs.View.{view};
+ghost use Rattle.section.specs.Held.{state_of, Steps};
 ghost use Rattle.section.specs.Made.{call_of, answer_of, Ran};
 
 use crate::calls::{Answer, Call};
 use crate::section::Section;
-use book::book::Book;
 use common::error::Error;
 use writer::writer::Writer;
 
-impl Answer {
-    /// The answer of a call that answers nothing but that it is done.
-    pub fn done(res: Result<(), Error>) -> Answer
-        ensures { answer_of result ≡ plainly res }
-    {
-        match res {
-            Ok(()) => Answer::Done,
-            Err(refusal) => Answer::Refused(refusal),
-        }
-    }
-
-    /// The answer of a call that answers a number.
-    pub fn number(res: Result<usize, Error>) -> Answer
-        ensures { answer_of result ≡ counted res }
-    {
-        match res {
-            Ok(number) => Answer::Number(number),
-            Err(refusal) => Answer::Refused(refusal),
-        }
-    }
-}
-
-/// Makes a call, with the expressions of a book.
-pub fn apply<W: Writer>(section: &mut Section<W>, book: &Book<'_>, call: Call<'_>) -> Answer
-    ensures { Stepped (view (W.Writer.means section.old.sink) section.old.tables) (call_of (holds book.now) call.entry) (answer_of result) (view (W.Writer.means section.new.sink) section.new.tables) }
+/// Makes a call.
+pub fn apply<W: Writer>(section: &mut Section<W>, call: Call<'_>) -> Result<Answer, Error>
+    ensures { Steps W.Writer.means section.old (call_of call.entry) (answer_of result) section.new }
 {
     match call {
-        Call::BeginUnit(encoding) => Answer::number(section.begin_unit(encoding)),
-        Call::Append(bytes) => Answer::done(section.append(bytes)),
-        Call::Place(entry) => Answer::done(section.place(entry)),
-        Call::Size(number) => Answer::number(section.size(book, number)),
-        Call::SizeFrame(number, encoding) => Answer::number(section.size_frame(
-            book, number, encoding,
-        )),
-        Call::Write(number) => Answer::number(section.write(book, number)),
-        Call::WriteFrame(number, encoding) => Answer::number(section.write_frame(
-            book, number, encoding,
-        )),
-        Call::Fill(offset) => Answer::done(section.fill(offset)),
-        Call::Finish => Answer::number(section.finish()),
-        Call::Pending(index) => Answer::Row(section.pending(index)),
+        Call::BeginUnit(encoding) => section.begin_unit(encoding).map(Answer::Number),
+        Call::Append(bytes) => section.append(bytes).map(|()| Answer::Done),
+        Call::Place(entry) => section.place(entry).map(|()| Answer::Done),
+        Call::Size(book, number) => section.size(book, number).map(Answer::Number),
+        Call::SizeFrame(book, number, encoding) => section
+            .size_frame(book, number, encoding)
+            .map(Answer::Number),
+        Call::Write(book, number) => section.write(book, number).map(Answer::Number),
+        Call::WriteFrame(book, number, encoding) => section
+            .write_frame(book, number, encoding)
+            .map(Answer::Number),
+        Call::Fill(offset) => section.fill(offset).map(|()| Answer::Done),
+        Call::Finish => section.finish().map(Answer::Number),
+        Call::Pending(index) => Ok(Answer::Row(section.pending(index))),
     }
 }
 
-/// Makes calls in order, with the expressions of a book, and notes the answer of each. As many are made as there are places for answers.
+/// Makes calls in order, and notes the answer of each. As many are made as there are places for answers.
 pub fn run<W: Writer>(
     section: &mut Section<W>,
-    book: &Book<'_>,
     calls: &[Call<'_>],
-    answers: &mut [Answer],
+    answers: &mut [Result<Answer, Error>],
 )
-    ensures ran { Ran (holds book.now) (view (W.Writer.means section.old.sink) section.old.tables) calls.now answers.new (view (W.Writer.means section.new.sink) section.new.tables) }
+    ensures ran { Ran (state_of W.Writer.means section.old) calls.now answers.new (state_of W.Writer.means section.new) }
     ensures rest { drop (length calls.now) answers.new ≡ drop (length calls.now) answers.old }
 {
     for i in 0..calls.len().min(answers.len()) {
-        answers[i] = apply(section, book, calls[i]);
+        answers[i] = apply(section, calls[i]);
     }
 }

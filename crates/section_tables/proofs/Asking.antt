@@ -1,22 +1,22 @@
 -- What is answered to a question for an expression's size, as the rules have it.
-use Rattle.std.proofs.Common.{◌≡◌, ℕ, ◌-◌, ◌<◌, ◌≤◌, false, eqb, length, get_or, Some, None, Ok, Err, Option, Result, refl, ap, ◌∙◌, arith}
-use Rattle.std.proofs.lemmas.Bool.{ne_eqb}
+use Rattle.std.proofs.Common.{◌≡◌, ℕ, ◌-◌, List, [], ◌∷◌, length, Some, None, Ok, Err, Option, Result, refl, ap, ◌∙◌}
 use Rattle.common.specs.declared.encoding.Encoding.{Encoding}
 use Rattle.common.specs.declared.error.Error.{Error}
 use Rattle.common.specs.declared.error.Error.TheVariants.{NoUnit}
+use Rattle.common.specs.declared.fixup.DebugInfoFixup.{DebugInfoFixup}
+use Rattle.rules.specs.Results.{and_then}
 use Rattle.rules.specs.Scope.{Scope, in_frame}
 use Rattle.rules.specs.Sizes.{size_tree}
 use Rattle.rules.specs.Tree.{Tree}
 use Rattle.writer.specs.Meaning.{Sink}
 use Rattle.unit.specs.Offsets.{unit_scope}
+use Rattle.unit.specs.declared.UnitOffsets.{UnitOffsets}
 use Rattle.expression.specs.Sealed.{size_at}
 use Rattle.claim.specs.Section.{State, unit_at}
-use Rattle.claim.specs.Calls.{Call, ask_size, ask_frame_size, Event, sized, on_tree, on_value, refusal, answer, event, after}
+use Rattle.claim.specs.Calls.{Call, ask_size, ask_frame_size, Event, refused, sized, on_tree, on_value, answer, event, after}
 use Rattle.claim.specs.Claim.{counted}
-use Rattle.section_tables.specs.declared.tables.Tables.{Tables}
-use Rattle.section_tables.specs.View.{units_of, view}
-use Rattle.section_tables.proofs.Lookups.{any_unit, units_long, unit_at_lem}
-use Rattle.section_tables.proofs.Steps.{Follows, by_event, by_refusal}
+use Rattle.section_tables.specs.View.{last_of}
+use Rattle.section_tables.proofs.Steps.{section_of, last_known, some_begun, Follows, by_event}
 
 -- what a question for a size comes to
 abbrev asked : Encoding → Scope → Option Tree → Event
@@ -43,22 +43,15 @@ asked_follows : (m : State) (c : Call) (e : Encoding) (scope : Scope) (x : Optio
     → r ≡ size_at e scope x → Follows m c (counted r) m
 asked_follows m c e scope x r ev h = by_event (asked e scope x) ev (ap counted h ∙ asked_answer e scope x) (asked_after m e scope x)
 
-pub frame_size_follows : (k : Sink) (t : Tables) (x : Option Tree) (e : Encoding) (r : Result ℕ Error) → r ≡ size_at e in_frame x
-    → Follows (view k t) (ask_frame_size x e) (counted r) (view k t)
+pub frame_size_follows : (m : State) (x : Option Tree) (e : Encoding) (r : Result ℕ Error) → r ≡ size_at e in_frame x → Follows m (ask_frame_size x e) (counted r) m
 unfolding event
-frame_size_follows k t x e r h = asked_follows (view k t) (ask_frame_size x e) e in_frame x r refl h
+frame_size_follows m x e r h = asked_follows m (ask_frame_size x e) e in_frame x r refl h
 
-module _ (k : Sink) (t : Tables) (few : t.unit_count ≤ 8) (table : length t.units ≡ 8) (x : Option Tree) where
-  pub size_none : t.unit_count ≡ 0 → Follows (view k t) (ask_size x) (refusal NoUnit) (view k t)
-  unfolding event
-  size_none h = by_refusal NoUnit (rw (units_long t few table, h) refl)
-
-  pub size_follows : (r : Result ℕ Error) → 0 < t.unit_count
-      → r ≡ size_at (get_or t.units (t.unit_count - 1) any_unit).encoding (unit_scope (get_or t.units (t.unit_count - 1) any_unit)) x
-      → Follows (view k t) (ask_size x) (counted r) (view k t)
-  unfolding event
-  size_follows r some h =
-      let z : eqb t.unit_count 0 ≡ false = ne_eqb t.unit_count 0 (λ e. omega arith) in
-      let l : unit_at (units_of t) (t.unit_count - 1) ≡ get_or t.units (t.unit_count - 1) any_unit = unit_at_lem t few table (t.unit_count - 1) (omega arith) in
-      asked_follows (view k t) (ask_size x) (get_or t.units (t.unit_count - 1) any_unit).encoding (unit_scope (get_or t.units (t.unit_count - 1) any_unit)) x r
-      (rw (units_long t few table, z, l) refl) h
+pub size_follows : (k : Sink) (us : List UnitOffsets) (ps : List DebugInfoFixup) (x : Option Tree) (r : Result ℕ Error)
+    → r ≡ and_then (last_of us) (λ u. size_at u.encoding (unit_scope u) x) → Follows (section_of k us ps) (ask_size x) (counted r) (section_of k us ps)
+unfolding event after
+size_follows k [] ps x r h = by_event (refused NoUnit) refl (ap counted h) refl
+size_follows k (v ∷ vs) ps x r h =
+    let u : UnitOffsets = unit_at (v ∷ vs) (length (v ∷ vs) - 1) in
+    asked_follows (section_of k (v ∷ vs) ps) (ask_size x) u.encoding (unit_scope u) x r (rw (some_begun v vs) refl)
+    (h ∙ ap (λ o. and_then o (λ u. size_at u.encoding (unit_scope u) x)) (last_known v vs))

@@ -1,6 +1,6 @@
 -- The first of the references that a test holds of, by its place.
 use Rattle.std.proofs.Common.{◌≡◌, ℕ, zero, suc, ◌+◌, ◌<◌, ◌≤◌, Bool, true, false, eqb, leb, List, [], ◌∷◌, ◌++◌, length, get_or, take, drop, Some, None, sym, refl, ap, ◌∙◌, add-one, arith}
-use Rattle.std.proofs.lemmas.Bool.{ne_eqb, eqb-true, leb-true, and_parts, and_left}
+use Rattle.std.proofs.lemmas.Bool.{ne_eqb, leb-true, and_parts, and_left}
 use Rattle.common.specs.declared.fixup.DebugInfoFixup.{DebugInfoFixup}
 use Rattle.claim.specs.Calls.{stands_at, first_of, without_first}
 use Rattle.section_tables.specs.Rows.{no_row, FirstAt}
@@ -32,9 +32,6 @@ first_at size offset ps i l h e =
 pub elsewhere : (size offset : ℕ) (p : DebugInfoFixup) → (p.offset ≡ offset → ⊥) → stands_at size offset p ≡ false
 elsewhere size offset p ne = and_left (eqb p.offset offset) (leb (p.offset + p.width) size) (ne_eqb p.offset offset ne)
 
--- one that stands begins there and lies within the bytes
-pub stands_offset : (size offset : ℕ) (p : DebugInfoFixup) → stands_at size offset p ≡ true → p.offset ≡ offset
-stands_offset size offset p h = eqb-true p.offset offset (and_parts (eqb p.offset offset) (leb (p.offset + p.width) size) h).0
-
+-- one that stands lies within the bytes
 pub stands_within : (size offset : ℕ) (p : DebugInfoFixup) → stands_at size offset p ≡ true → p.offset + p.width ≤ size
 stands_within size offset p h = leb-true (p.offset + p.width) size (and_parts (eqb p.offset offset) (leb (p.offset + p.width) size) h).1

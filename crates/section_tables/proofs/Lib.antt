@@ -1,8 +1,9 @@
 pub mod Firsts
 pub mod Rises
+pub mod Insides
 pub mod Lookups
 pub mod Steps
-pub mod Filling
-pub mod Asking
 pub mod Widths
+pub mod Asking
 pub mod Writing
+pub mod Filling

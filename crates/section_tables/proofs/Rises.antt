@@ -1,32 +1,35 @@
 -- References whose offsets rise.
-use Rattle.std.proofs.Common.{◌≡◌, ℕ, zero, suc, ◌+◌, ◌<◌, ◌≤◌, Bool, true, false, cond, leb, ◌⊎◌, List, [], ◌∷◌, ◌++◌, length, get_or, take, drop, None, sym, refl, ap, ◌∙◌, inl, inr, add-one, arith}
-use Rattle.std.proofs.lemmas.Bool.{leb-true, le-leb, and_parts, and_from, cond-true, cases_lt}
+use Rattle.std.proofs.Common.{◌≡◌, ℕ, zero, suc, ◌+◌, ◌<◌, ◌≤◌, Bool, true, false, leb, ltb, List, [], ◌∷◌, ◌++◌, length, get_or, take, drop, Some, None, Option, sym, refl, ap, ◌∙◌, inl, inr, add-one, arith}
+use Rattle.std.proofs.lemmas.Bool.{leb-true, le-leb, ltb-true, ltb-false, and_parts, and_from, cases_lt}
+use Rattle.std.proofs.lemmas.List.Sorted.{IsPartitionedBy-ltb}
+use Rattle.std.specs.Bool.{then_some}
+use Rattle.std.specs.Borrow.{Bor}
+use Rattle.std.specs.Slice.{IsItemAt}
+use Rattle.std.specs.List.Sorted.{IsPartitionPoint, IsPartitionedBy}
 use Rattle.common.specs.declared.fixup.DebugInfoFixup.{DebugInfoFixup}
 use Rattle.dwarf.specs.Fixed.{is_width}
 use Rattle.claim.specs.Calls.{stands_at, first_of}
-use Rattle.section_tables.specs.declared.tables.Tables.{Tables}
-use Rattle.section_tables.specs.View.{rows_of}
-use Rattle.section_tables.specs.Rows.{no_row, rise, wide, ordered, FirstAt, RisesOn, SplitAt}
+use Rattle.section_tables.specs.Rows.{no_row, rise, wide, FirstAt, Found}
 use Rattle.section_tables.proofs.Firsts.{none_first, first_at, elsewhere}
 
 parts : (least : ℕ) (p : DebugInfoFixup) (ps : List DebugInfoFixup) → rise least (p ∷ ps) ≡ true
     → (leb least p.offset ≡ true) × (rise (p.offset + 1) ps ≡ true)
 parts least p ps r = and_parts (leb least p.offset) (rise (p.offset + 1) ps) r
 
-rise_from : (least : ℕ) (ps : List DebugInfoFixup) (k : ℕ) → rise least ps ≡ true → k < length ps → least ≤ (get_or ps k no_row).offset
-rise_from least [] k r l = absurd (omega arith)
-rise_from least (p ∷ ps) zero r l = leb-true least p.offset (parts least p ps r).0
-rise_from least (p ∷ ps) (suc k) r l =
+rise_from : (least : ℕ) (ps : List DebugInfoFixup) (k : ℕ) (d : DebugInfoFixup) → rise least ps ≡ true → k < length ps → least ≤ (get_or ps k d).offset
+rise_from least [] k d r l = absurd (omega arith)
+rise_from least (p ∷ ps) zero d r l = leb-true least p.offset (parts least p ps r).0
+rise_from least (p ∷ ps) (suc k) d r l =
     let a = leb-true least p.offset (parts least p ps r).0 in
-    let b = rise_from (p.offset + 1) ps k (parts least p ps r).1 (omega arith) in omega arith
+    let b = rise_from (p.offset + 1) ps k d (parts least p ps r).1 (omega arith) in omega arith
 
 -- of two references the one behind begins behind
-pub rise_less : (least : ℕ) (ps : List DebugInfoFixup) (i j : ℕ) → rise least ps ≡ true → i < j → j < length ps
-    → (get_or ps i no_row).offset < (get_or ps j no_row).offset
-rise_less least [] i j r m l = absurd (omega arith)
-rise_less least (p ∷ ps) i zero r m l = absurd (omega arith)
-rise_less least (p ∷ ps) zero (suc j) r m l = let b = rise_from (p.offset + 1) ps j (parts least p ps r).1 (omega arith) in omega arith
-rise_less least (p ∷ ps) (suc i) (suc j) r m l = rise_less (p.offset + 1) ps i j (parts least p ps r).1 (omega arith) (omega arith)
+rise_less : (least : ℕ) (ps : List DebugInfoFixup) (i j : ℕ) (d : DebugInfoFixup) → rise least ps ≡ true → i < j → j < length ps
+    → (get_or ps i d).offset < (get_or ps j d).offset
+rise_less least [] i j d r m l = absurd (omega arith)
+rise_less least (p ∷ ps) i zero d r m l = absurd (omega arith)
+rise_less least (p ∷ ps) zero (suc j) d r m l = let b = rise_from (p.offset + 1) ps j d (parts least p ps r).1 (omega arith) in omega arith
+rise_less least (p ∷ ps) (suc i) (suc j) d r m l = rise_less (p.offset + 1) ps i j d (parts least p ps r).1 (omega arith) (omega arith)
 
 pub rise_lower : (least less : ℕ) (ps : List DebugInfoFixup) → less ≤ least → rise least ps ≡ true → rise less ps ≡ true
 rise_lower least less [] l r = refl
@@ -62,98 +65,62 @@ wide_at [] i l w = absurd (omega arith)
 wide_at (p ∷ ps) zero l w = (and_parts (is_width p.width) (wide ps) w).0
 wide_at (p ∷ ps) (suc i) l w = wide_at ps i (omega arith) (and_parts (is_width p.width) (wide ps) w).1
 
--- the place at which references that begin before an offset end is between two others
-pub record Between (offset : ℕ) (ps : List DebugInfoFixup) (low high : ℕ) : Type 0 where
-  pub apart : low ≤ high
-  pub within : high ≤ length ps
-  pub before : (k : ℕ) → k < low → (get_or ps k no_row).offset < offset
-  pub behind : (k : ℕ) → high ≤ k → k < length ps → offset ≤ (get_or ps k no_row).offset
+-- the references before a place begin before an offset, and those from it on do not
+pub record SplitAt (offset : ℕ) (ps : List DebugInfoFixup) (i : ℕ) : Type 0 where
+  pub within : i ≤ length ps
+  pub before : (k : ℕ) → k < i → (get_or ps k no_row).offset < offset
+  pub behind : (k : ℕ) → i ≤ k → k < length ps → offset ≤ (get_or ps k no_row).offset
+
+module _ (offset : ℕ) (ps : List DebugInfoFixup) where
+  -- those that begin before an offset come first
+  pub parted : rise 0 ps ≡ true → IsPartitionedBy (λ (p : DebugInfoFixup). ltb p.offset offset) ps
+  parted r = IsPartitionedBy-ltb (λ (p : DebugInfoFixup). p.offset) ps offset (λ i j d l m.
+      elim (cases_lt i j) [
+        | inl a ↦ let z = rise_less 0 ps i j d r a m in omega arith
+        | inr a ↦ let e : i ≡ j = omega arith in let z : (get_or ps i d).offset ≡ (get_or ps j d).offset = ap (λ (k : ℕ). (get_or ps k d).offset) e in omega arith
+      ])
+
+  pub split : (i : ℕ) → i ≤ length ps → IsPartitionPoint (λ (p : DebugInfoFixup). ltb p.offset offset ≡ true) (λ (p : DebugInfoFixup). ltb p.offset offset ≡ false) ps i → SplitAt offset ps i
+  split i l h = record {
+    within = l;
+    before = λ k m. ltb-true _ offset (h.0 k no_row (omega arith) m);
+    behind = λ k m n. ltb-false _ offset (h.1 k no_row m n);
+  }
+
+-- whether a reference, where there is one, begins at an offset and lies within so many bytes
+abbrev pub standing : ℕ → ℕ → Option (Bor DebugInfoFixup) → Bool
+standing size offset None = false
+standing size offset (Some p) = stands_at size offset p.now
 
 module _ (offset : ℕ) (ps : List DebugInfoFixup) (r : rise 0 ps ≡ true) where
-  module _ (low high middle : ℕ) (b : Between offset ps low high) (from : low ≤ middle) (to : middle < high) where
-    pub raise : (get_or ps middle no_row).offset < offset → Between offset ps (middle + 1) high
-    raise h =
-        let w = b.within in
-        record {
-          apart = omega arith;
-          within = w;
-          before = λ k l. elim (cases_lt k middle) [
-            | inl m ↦ let z = rise_less 0 ps k middle r m (omega arith) in omega arith
-            | inr m ↦ let e : middle ≡ k = omega arith in rw (← e) h
-          ];
-          behind = b.behind;
-        }
-
-    pub lower : offset ≤ (get_or ps middle no_row).offset → Between offset ps low middle
-    lower h =
-        let w = b.within in
-        record {
-          apart = from;
-          within = omega arith;
-          before = b.before;
-          behind = λ k l n. elim (cases_lt middle k) [
-            | inl m ↦ let z = rise_less 0 ps middle k r m n in omega arith
-            | inr m ↦ let e : middle ≡ k = omega arith in rw (← e) h
-          ];
-        }
-
   module _ (size i : ℕ) (s : SplitAt offset ps i) where
     before_not : (k : ℕ) → k < i → stands_at size offset (get_or ps k no_row) ≡ false
     before_not k l = let z = s.before k l in elsewhere size offset (get_or ps k no_row) (λ e. omega arith)
 
-    pub split_first : i < length ps → stands_at size offset (get_or ps i no_row) ≡ true → FirstAt size offset ps i
+    split_first : i < length ps → stands_at size offset (get_or ps i no_row) ≡ true → FirstAt size offset ps i
     split_first l e = first_at size offset ps i l before_not e
 
-    pub split_none : length ps ≤ i → first_of (stands_at size offset) ps ≡ None
-    split_none l = none_first (stands_at size offset) ps (λ k m. before_not k (omega arith))
-
-    pub split_other : i < length ps → stands_at size offset (get_or ps i no_row) ≡ false → first_of (stands_at size offset) ps ≡ None
+    split_other : i < length ps → stands_at size offset (get_or ps i no_row) ≡ false → first_of (stands_at size offset) ps ≡ None
     split_other l e = none_first (stands_at size offset) ps (λ k m.
         elim (cases_lt k i) [
           | inl a ↦ before_not k a
           | inr a ↦ elim (cases_lt i k) [
-            | inl c ↦ let x = s.behind i (omega arith) l in let y = rise_less 0 ps i k r c m in elsewhere size offset (get_or ps k no_row) (λ z. omega arith)
+            | inl c ↦ let x = s.behind i (omega arith) l in let y = rise_less 0 ps i k no_row r c m in elsewhere size offset (get_or ps k no_row) (λ z. omega arith)
             | inr c ↦ let z : i ≡ k = omega arith in rw (← z) e
           ]
         ])
 
-pub split : (offset : ℕ) (ps : List DebugInfoFixup) (low high : ℕ) → Between offset ps low high → high ≤ low → SplitAt offset ps low
-split offset ps low high b l =
-    let w = b.within in let a = b.apart in
-    record { within = omega arith; before = b.before; behind = λ k m n. b.behind k (omega arith) n }
+    split_none : length ps ≤ i → first_of (stands_at size offset) ps ≡ None
+    split_none l = none_first (stands_at size offset) ps (λ k m. before_not k (omega arith))
 
--- references that are known to rise do
-pub known : (t : Tables) → t.rising ≡ true → ordered t ≡ true → rise 0 (rows_of t) ≡ true
-known t e h = sym (cond-true t.rising (rise 0 (rows_of t)) true e) ∙ h
+    -- so the reference at that place, where there is one, is the only one that can stand
+    pub split_found : (r : Option (Bor DebugInfoFixup)) → IsItemAt ps i r → Found size offset ps (then_some (standing size offset r) i)
+    split_found None h = split_none h.3
+    split_found (Some p) h = go (stands_at size offset p.now) (ap (stands_at size offset) (h.3.1 no_row))
+      where
+        go : (b : Bool) → b ≡ stands_at size offset (get_or ps i no_row) → Found size offset ps (then_some b i)
+        go true e = split_first h.3.0 (sym e)
+        go false e = split_other h.3.0 (sym e)
 
-rise-freed : (b : Bool) (ps : List DebugInfoFixup) (i : ℕ) → cond b (rise 0 ps) true ≡ true → cond b (rise 0 (take i ps ++ drop (suc i) ps)) true ≡ true
-rise-freed true ps i r = rise_without 0 ps i r
-rise-freed false ps i r = refl
-
-pub ordered-freed : (t t' : Tables) (i : ℕ) → t'.rising ≡ t.rising → rows_of t' ≡ take i (rows_of t) ++ drop (i + 1) (rows_of t) → ordered t ≡ true
-    → ordered t' ≡ true
-ordered-freed t t' i e f h =
-    let g : rows_of t' ≡ take i (rows_of t) ++ drop (suc i) (rows_of t) = f ∙ ap (λ (z : ℕ). take i (rows_of t) ++ drop z (rows_of t)) (add-one i) in
-    rw (e, g) (rise-freed t.rising (rows_of t) i h)
-
-rise-append : (least at : ℕ) (ps more : List DebugInfoFixup) → least ≤ at → rise least ps ≡ true
-    → ((k : ℕ) → k < length ps → (get_or ps k no_row).offset < at) → rise at more ≡ true → rise least (ps ++ more) ≡ true
-rise-append least at [] more l r b m = rise_lower at least more l m
-rise-append least at (p ∷ ps) more l r b m =
-    let h = b 0 (omega arith) in
-    and_from (leb least p.offset) (rise (p.offset + 1) (ps ++ more)) (parts least p ps r).0
-    (rise-append (p.offset + 1) at ps more (omega arith) (parts least p ps r).1 (λ k i. b (suc k) (omega arith)) m)
-
--- where the last of them begins before an offset
-pub rises_on : (offset n : ℕ) (ps : List DebugInfoFixup) → length ps ≡ suc n → rise 0 ps ≡ true → (get_or ps n no_row).offset < offset → RisesOn offset ps
-rises_on offset n ps l r h more m =
-    rise-append 0 offset ps more (omega arith) r
-    (λ k i. at_most (cases_lt k n) k refl i) m
-  where
-    at_most : {k : ℕ} → (k < n) ⊎ (n ≤ k) → (j : ℕ) → j ≡ k → j < length ps → (get_or ps j no_row).offset < offset
-    at_most {k} (inl b) j e i = let z = rise_less 0 ps j n r (omega arith) (omega arith) in omega arith
-    at_most {k} (inr b) j e i = let q : j ≡ n = omega arith in let z : (get_or ps j no_row).offset ≡ (get_or ps n no_row).offset = ap (λ (y : ℕ). (get_or ps y no_row).offset) q in omega arith
-
-pub rises_empty : (offset : ℕ) (ps : List DebugInfoFixup) → length ps ≡ 0 → RisesOn offset ps
-rises_empty offset [] l more m = rise_lower offset 0 more (omega arith) m
-rises_empty offset (p ∷ ps) l more m = absurd (omega arith)
+pub rise-freed : (ps qs : List DebugInfoFixup) (i : ℕ) → qs ≡ take i ps ++ drop (i + 1) ps → rise 0 ps ≡ true → rise 0 qs ≡ true
+rise-freed ps qs i e r = ap (rise 0) (e ∙ ap (λ (z : ℕ). take i ps ++ drop z ps) (add-one i)) ∙ rise_without 0 ps i r

@@ -1,45 +1,29 @@
 -- What the calls of a section leave in its sink and tables, as the rules have it.
-use Rattle.std.proofs.Common.{◌≡◌, ℕ, ◌+◌, ◌-◌, ◌<◌, ◌≤◌, Bool, true, false, cond, not, eqb, ltb, leb, List, [], ◌∷◌, ◌++◌, length, get_or, take, set, is_some, Ok, Err, Option, Result, sym, refl, ap, ◌∙◌, arith}
-use lib.Seq.{take-set-lt}
-use Rattle.std.proofs.lemmas.List.{take_more_set}
+use Rattle.std.proofs.Common.{◌≡◌, ℕ, ◌-◌, ◌<◌, ◌≤◌, Bool, true, false, cond, not, eqb, ltb, leb, List, [], ◌∷◌, ◌++◌, length, is_some, Some, None, Ok, Err, Option, Result, sym, refl, ap, ◌∙◌, subst, arith}
 use Rattle.std.proofs.lemmas.Bool.{lt-ltb, le-ltb, le-leb, lt-leb, ne_eqb}
+use Rattle.std.proofs.lemmas.Option.{slice_get-get_or, slice_get_past}
+use Rattle.std.specs.Borrow.{Bor}
+use Rattle.std.specs.Option.{option_copied}
+use Rattle.std.specs.Slice.{IsItemAt}
 use Rattle.std.specs.List.{slice_get}
+use Rattle.std.specs.Prelude.{ok_or}
 use Rattle.common.specs.declared.encoding.Encoding.{Encoding}
 use Rattle.common.specs.declared.error.Error.{Error}
 use Rattle.common.specs.declared.error.Error.TheVariants.{NoRoom, TooManyUnits, NoUnit, BadEntry, AlreadyPlaced, AtUnitStart, StillPending}
 use Rattle.common.specs.declared.fixup.DebugInfoFixup.{DebugInfoFixup}
+use Rattle.rules.specs.Results.{and_then}
 use Rattle.writer.specs.Meaning.{Sink, fits, append_answer, appended as appended_to}
+use Rattle.unit.specs.Offsets.{place_of, unplaced}
 use Rattle.unit.specs.declared.UnitOffsets.{UnitOffsets}
-use Rattle.claim.specs.Section.{State, unit_at, entry_offset, fresh_unit, with_entry, placed_in}
-use Rattle.claim.specs.Calls.{
-  Call,
-  begin_unit,
-  append,
-  place_entry,
-  finish,
-  ask_pending,
-  Event,
-  refused,
-  began,
-  appended,
-  placed,
-  finished,
-  listed,
-  refused_if,
-  Answer,
-  ok,
-  number,
-  row,
-  refusal,
-  answer,
-  event,
-  after,
-  with_units,
-}
-use Rattle.claim.specs.Claim.{plainly}
+use Rattle.claim.specs.Section.{State, no_unit, unit_at, entry_offset}
+use Rattle.claim.specs.Calls.{Call, begin_unit, append, place_entry, finish, ask_pending, Event, refused, began, appended, placed, finished, listed, refused_if, Answer, number, row, refusal, answer, event, after, with_units}
+use Rattle.claim.specs.Claim.{plainly, counted}
 use Rattle.section_tables.specs.declared.tables.Tables.{Tables}
-use Rattle.section_tables.specs.View.{units_of, rows_of, view}
-use Rattle.section_tables.proofs.Lookups.{any_unit, rows_long, units_long, unit_at_lem}
+use Rattle.section_tables.specs.View.{last_of, Begins, placing_in, units_after, Places, view}
+
+-- a section of a sink, units and references
+abbrev pub section_of : Sink → List UnitOffsets → List DebugInfoFixup → State
+section_of k us ps = record { bytes = k.content; capacity = k.capacity; big = k.big; units = us; pending = ps }
 
 -- a call answers and leaves what the rules say
 pub record Follows (m : State) (c : Call) (a : Answer) (s : State) : Type 0 where
@@ -68,88 +52,65 @@ append_follows k k' t bytes r e f =
     leaves true = refl
     leaves false = refl
 
-pub pending_follows : (k : Sink) (t : Tables) (index : ℕ) (r : Option DebugInfoFixup) → r ≡ slice_get (rows_of t) index
-    → Follows (view k t) (ask_pending index) (row r) (view k t)
+copied : (ps : List DebugInfoFixup) (index : ℕ) (r : Option (Bor DebugInfoFixup)) → IsItemAt ps index r → option_copied r ≡ slice_get ps index
+copied ps index None h = sym (slice_get_past ps index h.3)
+copied ps index (Some p) h = ap Some (h.3.1 p.now) ∙ sym (slice_get-get_or ps index p.now h.3.0)
+
+pub pending_follows : (k : Sink) (us : List UnitOffsets) (ps : List DebugInfoFixup) (index : ℕ) (r : Option (Bor DebugInfoFixup)) → IsItemAt ps index r
+    → Follows (section_of k us ps) (ask_pending index) (row (option_copied r)) (section_of k us ps)
 unfolding event after
-pending_follows k t index r e = by_event (listed (slice_get (rows_of t) index)) refl (ap row e) refl
+pending_follows k us ps index r h = by_event (listed (slice_get ps index)) refl (ap row (copied ps index r h)) refl
 
-module _ (k : Sink) (t : Tables) (few : t.unit_count ≤ 8) (table : length t.units ≡ 8) where
-  many : length (units_of t) ≡ t.unit_count
-  many = units_long t few table
+-- the last unit, where one has begun
+pub last_known : (v : UnitOffsets) (vs : List UnitOffsets) → last_of (v ∷ vs) ≡ Ok (unit_at (v ∷ vs) (length (v ∷ vs) - 1))
+last_known v vs = ap (λ o. ok_or o NoUnit) (slice_get-get_or (v ∷ vs) (length (v ∷ vs) - 1) no_unit (omega arith))
 
-  pub begin_full : (e : Encoding) → 8 ≤ t.unit_count → Follows (view k t) (begin_unit e) (refusal TooManyUnits) (view k t)
-  unfolding event
-  begin_full e h = by_refusal TooManyUnits (rw (many, le-leb 8 t.unit_count h) refl)
+pub some_begun : (v : UnitOffsets) (vs : List UnitOffsets) → eqb (length (v ∷ vs)) 0 ≡ false
+some_begun v vs = ne_eqb (length (v ∷ vs)) 0 (λ e. omega arith)
 
-  pub begin_follows : (e : Encoding) (n : ℕ) → t.unit_count < 8 → n ≡ length k.content
-      → Follows (view k t) (begin_unit e) (number t.unit_count)
-      (view k (record { units = set t.units t.unit_count (fresh_unit e n); unit_count = t.unit_count + 1; pending = t.pending; pending_count = t.pending_count; rising = t.rising }))
+module _ (k : Sink) (ps : List DebugInfoFixup) where
+  pub begin_follows : (us us' : List UnitOffsets) (e : Encoding) (n : ℕ) (r : Result ℕ Error) → n ≡ length k.content → Begins us (unplaced e n) r us'
+      → Follows (section_of k us ps) (begin_unit e) (counted r) (section_of k us' ps)
   unfolding event after
-  begin_follows e n h l =
-      let b : leb 8 t.unit_count ≡ false = lt-leb 8 t.unit_count h in
-      let us : take (t.unit_count + 1) (set t.units t.unit_count (fresh_unit e n)) ≡ units_of t ++ (fresh_unit e (length k.content) ∷ []) =
-      take_more_set t.units t.unit_count (fresh_unit e n) (omega arith)
-      ∙ ap (λ (z : ℕ). units_of t ++ (fresh_unit e z ∷ [])) l in
-      by_event (began t.unit_count e) (rw (many, b) refl) refl (ap (with_units (view k t)) us)
+  begin_follows us us' e n (Ok unit) l (few, same, more) =
+      by_event (began (length us) e) (rw (lt-leb 8 (length us) few) refl) (ap number same)
+      (ap (with_units (section_of k us ps)) (more ∙ ap (λ (m : ℕ). us ++ (unplaced e m ∷ [])) l))
+  begin_follows us us' e n (Err z) l (full, is, same) =
+      by_event (refused TooManyUnits) (rw (le-leb 8 (length us) full) refl) (ap refusal is) (ap (with_units (section_of k us ps)) same)
 
-  pub place_none : (entry : ℕ) → t.unit_count ≡ 0 → Follows (view k t) (place_entry entry) (refusal NoUnit) (view k t)
+  pub place_follows : (us us' : List UnitOffsets) (entry n : ℕ) (r : Result (Unit {0}) Error) → n ≡ length k.content → Places us entry n r us'
+      → Follows (section_of k us ps) (place_entry entry) (plainly r) (section_of k us' ps)
+  unfolding event after entry_offset
+  place_follows [] us' entry n r l p =
+      by_event (refused NoUnit) refl (ap plainly p.answer) (ap (with_units (section_of k [] ps)) (p.after ∙ ap (units_after [] entry n) p.answer))
+  place_follows (v ∷ vs) us' entry n r l p =
+      let q : Places us entry (length k.content) r us' = subst (λ (z : ℕ). Places us entry z r us') l p in
+      go (ltb 127 entry) (is_some (place_of u entry)) (leb (length k.content) u.start)
+      (q.answer ∙ ap (λ o. and_then o (placing_in entry (length k.content))) (last_known v vs)) q.after
+      (rw (some_begun v vs) refl)
+    where
+      us : List UnitOffsets
+      us = v ∷ vs
+
+      u : UnitOffsets
+      u = unit_at us (length us - 1)
+
+      go : (x y z : Bool) → r ≡ cond x (Err BadEntry) (cond y (Err AlreadyPlaced) (cond z (Err AtUnitStart) (Ok tt)))
+          → us' ≡ units_after us entry (length k.content) r
+          → event (section_of k us ps) (place_entry entry)
+          ≡ refused_if x BadEntry (refused_if y AlreadyPlaced (refused_if z AtUnitStart (placed (length us - 1) entry (length k.content))))
+          → Follows (section_of k us ps) (place_entry entry) (plainly r) (section_of k us' ps)
+      go true y z e f g = by_event (refused BadEntry) g (ap plainly e) (ap (with_units (section_of k us ps)) (f ∙ ap (units_after us entry (length k.content)) e))
+      go false true z e f g = by_event (refused AlreadyPlaced) g (ap plainly e) (ap (with_units (section_of k us ps)) (f ∙ ap (units_after us entry (length k.content)) e))
+      go false false true e f g = by_event (refused AtUnitStart) g (ap plainly e) (ap (with_units (section_of k us ps)) (f ∙ ap (units_after us entry (length k.content)) e))
+      go false false false e f g =
+          by_event (placed (length us - 1) entry (length k.content)) g (ap plainly e) (ap (with_units (section_of k us ps)) (f ∙ ap (units_after us entry (length k.content)) e))
+
+module _ (k : Sink) (us : List UnitOffsets) (ps : List DebugInfoFixup) where
+  pub finish_still : 0 < length ps → Follows (section_of k us ps) finish (refusal StillPending) (section_of k us ps)
   unfolding event
-  place_none entry h = by_refusal NoUnit (rw (many, h) refl)
+  finish_still h = by_refusal StillPending (rw (lt-ltb 0 (length ps) h) refl)
 
-  module _ (entry : ℕ) (some : 0 < t.unit_count) where
-    abbrev last : ℕ
-    last = t.unit_count - 1
-
-    abbrev start : ℕ
-    start = (get_or t.units last any_unit).start
-
-    abbrev rest : Event
-    rest =
-        refused_if (is_some (entry_offset (units_of t) last entry)) AlreadyPlaced
-        (refused_if (leb (length k.content) start) AtUnitStart (placed last entry (length k.content)))
-
-    last_unit_lem : unit_at (units_of t) last ≡ get_or t.units last any_unit
-    last_unit_lem = unit_at_lem t few table last (omega arith)
-
-    place-event : event (view k t) (place_entry entry) ≡ refused_if (ltb 127 entry) BadEntry rest
-    unfolding event
-    place-event =
-        let z : eqb t.unit_count 0 ≡ false = ne_eqb t.unit_count 0 (λ e. omega arith) in
-        rw (many, z, last_unit_lem) refl
-
-    pub place_bad : 127 < entry → Follows (view k t) (place_entry entry) (refusal BadEntry) (view k t)
-    place_bad h = by_refusal BadEntry (place-event ∙ rw (lt-ltb 127 entry h) refl)
-
-    place_good : entry ≤ 127 → event (view k t) (place_entry entry) ≡ rest
-    place_good h = place-event ∙ rw (le-ltb 127 entry h) refl
-
-    pub place_again : entry ≤ 127 → is_some (entry_offset (units_of t) last entry) ≡ true
-        → Follows (view k t) (place_entry entry) (refusal AlreadyPlaced) (view k t)
-    place_again h e = by_refusal AlreadyPlaced (place_good h ∙ rw e refl)
-
-    pub place_early : entry ≤ 127 → is_some (entry_offset (units_of t) last entry) ≡ false → (n : ℕ) → n ≡ length k.content → n ≤ start
-        → Follows (view k t) (place_entry entry) (refusal AtUnitStart) (view k t)
-    place_early h e n f g = by_refusal AtUnitStart (place_good h ∙ rw (e, le-leb (length k.content) start (omega arith)) refl)
-
-    pub place_follows : entry ≤ 127 → is_some (entry_offset (units_of t) last entry) ≡ false → (n : ℕ) → n ≡ length k.content → start < n
-        → Follows (view k t) (place_entry entry) ok
-        (view k (record { units = set t.units last (with_entry (get_or t.units last any_unit) entry n); unit_count = t.unit_count; pending = t.pending; pending_count = t.pending_count; rising = t.rising }))
-    unfolding after
-    place_follows h e n f g =
-        let us : take t.unit_count (set t.units last (with_entry (get_or t.units last any_unit) entry n)) ≡ placed_in (units_of t) last entry (length k.content) =
-        take-set-lt t.unit_count t.units last (with_entry (get_or t.units last any_unit) entry n) (omega arith)
-        ∙ ap (λ (u : UnitOffsets). set (units_of t) last (with_entry u entry n)) (sym last_unit_lem)
-        ∙ ap (placed_in (units_of t) last entry) f in
-        by_event (placed last entry (length k.content))
-        (place_good h ∙ rw (e, lt-leb (length k.content) start (omega arith)) refl) refl
-        (ap (with_units (view k t)) us)
-
-module _ (k : Sink) (t : Tables) (few : t.pending_count ≤ 512) (table : length t.pending ≡ 512) where
-  pub finish_still : 0 < t.pending_count → Follows (view k t) finish (refusal StillPending) (view k t)
-  unfolding event
-  finish_still h = by_refusal StillPending (rw (rows_long t few table, lt-ltb 0 t.pending_count h) refl)
-
-  pub finish_follows : (n : ℕ) → t.pending_count ≤ 0 → n ≡ length k.content → Follows (view k t) finish (number n) (view k t)
+  pub finish_follows : (n : ℕ) → length ps ≤ 0 → n ≡ length k.content → Follows (section_of k us ps) finish (number n) (section_of k us ps)
   unfolding event after
-  finish_follows n h e =
-      by_event (finished (length k.content)) (rw (rows_long t few table, le-ltb 0 t.pending_count h) refl) (ap number e) refl
+  finish_follows n h e = by_event (finished (length k.content)) (rw (le-ltb 0 (length ps) h) refl) (ap number e) refl

@@ -1,25 +1,23 @@
--- The references of an expression have widths in which a number can be written, and their offsets rise.
-use Rattle.std.proofs.Common.{◌≡◌, ℕ, ◌+◌, Bool, true, false, cond, ◌&&◌, ltb, leb, List, [], ◌∷◌, ◌++◌, length, ℤ, Some, None, Ok, Err, Option, Result, sym, refl, ap, ◌∙◌, arith}
-use Rattle.std.proofs.lemmas.List.{append-nil}
+-- The references of an expression have widths in which a number can be written, their offsets rise, and they end within the bytes written.
+use Rattle.std.proofs.Common.{◌≡◌, ℕ, ◌+◌, Bool, true, false, cond, ltb, leb, List, [], ◌∷◌, ◌++◌, length, ℤ, Some, None, Ok, Err, Option, Result, refl, ap, ap₂, ◌∙◌, arith}
+use Rattle.std.proofs.lemmas.List.{length-append}
 use Rattle.std.proofs.lemmas.Bool.{and_parts, and_from, le-leb}
-use Rattle.common.specs.Formats.{word_size}
 use Rattle.common.specs.declared.encoding.Encoding.{Encoding}
-use Rattle.common.specs.declared.encoding.Format.{Format}
-use Rattle.common.specs.declared.encoding.Format.TheVariants.{Dwarf32, Dwarf64}
 use Rattle.common.specs.declared.error.Error.{Error}
-use Rattle.common.specs.declared.error.Error.TheVariants.{NoRoom, TooManyReferences}
+use Rattle.common.specs.declared.error.Error.TheVariants.{NoRoom, TooManyReferences, NoExpression}
 use Rattle.common.specs.declared.fixup.DebugInfoFixup.{DebugInfoFixup}
-use Rattle.dwarf.specs.Bytes.{size_of}
+use Rattle.dwarf.specs.Bytes.{bytes_of, size_of}
 use Rattle.dwarf.specs.Fixed.{is_width}
 use Rattle.dwarf.specs.Leb.{uleb}
 use Rattle.dwarf.specs.References.{references}
 use Rattle.dwarf.specs.Tokens.{Tokens, code, nested}
 use Rattle.dwarf.proofs.Joining.{references-joined}
-use Rattle.emit.specs.Written.{allowed, written, set_down_by}
+use Rattle.dwarf.proofs.Sizes.{length_bytes}
+use Rattle.emit.specs.Written.{allowed, written, grown_by, set_down_by}
 use Rattle.rules.specs.Encode.{encode}
 use Rattle.rules.specs.Operands.{by_version}
 use Rattle.rules.specs.Results.{and_then}
-use Rattle.rules.specs.Scope.{Scope, in_frame}
+use Rattle.rules.specs.Scope.{Scope}
 use Rattle.rules.specs.Tree.{Tree}
 use Rattle.rules.proofs.Rows.{Rows, by_rows}
 use Rattle.rules.proofs.Trees.{by_growth_whole}
@@ -27,11 +25,10 @@ use Rattle.rules.proofs.Widths.{references-wide}
 use Rattle.writer.specs.Meaning.{Sink, fits}
 use Rattle.claim.specs.Claim.{Rising}
 use Rattle.claim.proofs.Fixups.{rising_tokens}
-use Rattle.claim.proofs.Frames.{frame_none}
-use Rattle.section_tables.specs.declared.tables.Tables.{Tables}
-use Rattle.section_tables.specs.View.{rows_of}
-use Rattle.section_tables.specs.Rows.{rise, wide, ordered, RisesOn}
+use Rattle.claim.proofs.Formed.{word_width}
+use Rattle.section_tables.specs.Rows.{rise, wide, inside}
 use Rattle.section_tables.proofs.Rises.{rise_lower}
+use Rattle.section_tables.proofs.Insides.{inside-longer, inside-append, inside_tokens, rise-append}
 
 wide-append : (xs ys : List DebugInfoFixup) → wide xs ≡ true → wide ys ≡ true → wide (xs ++ ys) ≡ true
 wide-append [] ys h k = k
@@ -41,10 +38,6 @@ wide-append (p ∷ xs) ys h k =
 
 abbrev WideIn : Tokens → Type 0
 WideIn a = (at : ℕ) → wide (references at a) ≡ true
-
-word_wide : (f : Format) → (is_width (word_size f) && true) ≡ true
-word_wide Dwarf32 = refl
-word_wide Dwarf64 = refl
 
 wide_rows : (e : Encoding) (s : Scope) (leads : Option ℕ → Result ℤ Error) → Rows e s leads (λ o bs a. WideIn a)
 unfolding references
@@ -70,8 +63,8 @@ wide_rows e s leads = record {
   of_skip = λ target z bs is at. refl;
   of_branch = λ target z bs is at. refl;
   of_call = λ entry n bs l at. refl;
-  of_call_ref = λ to owner entry bs is at. word_wide e.format;
-  of_variable = λ to owner entry bs is at. word_wide e.format;
+  of_call_ref = λ to owner entry bs is at. and_from _ true (word_width e.format) refl;
+  of_variable = λ to owner entry bs is at. and_from _ true (word_width e.format) refl;
   of_convert = λ base n bs is at. refl;
   of_reinterpret = λ base n bs is at. refl;
   of_register = λ r bs l at. refl;
@@ -108,35 +101,44 @@ rising_rise at (p ∷ ps) r =
     and_from (leb at p.offset) (rise (p.offset + 1) ps) (le-leb at p.offset (omega arith))
     (rise_lower (p.offset + p.width) (p.offset + 1) ps (omega arith) (rising_rise (p.offset + p.width) ps r.2))
 
--- what is set down by an expression, or nothing where it is refused
+-- what an expression sets down, or nothing where it is refused
 module _ (k : Sink) (n : ℕ) (e : Encoding) (s : Scope) (rows : List DebugInfoFixup) where
-  by_tokens : (P : List DebugInfoFixup → Type 0) → P rows → ((t : Tree) (a : Tokens) → encode e s t ≡ Ok a → P (rows ++ references (length k.content) a)) →
-      (x : Option Tree) → P (set_down_by k rows (written k n e s x))
-  by_tokens P none some None = none
-  by_tokens P none some (Some t) = encoded (encode e s t) refl
+  by_outcome : (P : Result Tokens Error → Type 0) → ((z : Error) → P (Err z)) → ((t : Tree) (a : Tokens) → encode e s t ≡ Ok a → P (Ok a)) →
+      (x : Option Tree) → P (written k n e s x)
+  by_outcome P none some None = none NoExpression
+  by_outcome P none some (Some t) = encoded (encode e s t) refl
     where
-      tested : (a : Tokens) (x y : Bool) → encode e s t ≡ Ok a → P (set_down_by k rows (cond x (Err TooManyReferences) (cond y (Ok a) (Err NoRoom))))
-      tested a true y h = none
+      tested : (a : Tokens) (x y : Bool) → encode e s t ≡ Ok a → P (cond x (Err TooManyReferences) (cond y (Ok a) (Err NoRoom)))
+      tested a true y h = none TooManyReferences
       tested a false true h = some t a h
-      tested a false false h = none
+      tested a false false h = none NoRoom
 
-      encoded : (r : Result Tokens Error) → encode e s t ≡ r → P (set_down_by k rows (and_then r (allowed k n)))
+      encoded : (r : Result Tokens Error) → encode e s t ≡ r → P (and_then r (allowed k n))
       encoded (Ok a) h = tested a (ltb 512 (n + length (references (length k.content) a))) (fits k (size_of a)) h
-      encoded (Err z) h = none
+      encoded (Err z) h = none z
 
-  pub wide-written : (x : Option Tree) → wide rows ≡ true → wide (set_down_by k rows (written k n e s x)) ≡ true
-  wide-written x w = by_tokens (λ ps. wide ps ≡ true) w (λ t a h. wide-append rows (references (length k.content) a) w (wide_set_down e s t a h (length k.content))) x
+  module _ (x : Option Tree) (qs : List DebugInfoFixup) (q : qs ≡ set_down_by k rows (written k n e s x)) (w : wide rows ≡ true) where
+    pub wide-written : wide qs ≡ true
+    wide-written =
+        ap wide q
+        ∙ by_outcome (λ o. wide (set_down_by k rows o) ≡ true) (λ z. w)
+        (λ t a h. wide-append rows (references (length k.content) a) w (wide_set_down e s t a h (length k.content))) x
 
-  rise-written : (x : Option Tree) → RisesOn (length k.content) rows → rise 0 (set_down_by k rows (written k n e s x)) ≡ true
-  rise-written x r =
-      by_tokens (λ ps. rise 0 ps ≡ true) (ap (rise 0) (sym (append-nil rows)) ∙ r [] refl)
-      (λ t a h. r (references (length k.content) a) (rising_rise (length k.content) (references (length k.content) a) (rising_tokens (length k.content) a (references-wide e s t a h)))) x
+    module _ (i : inside (length k.content) rows ≡ true) where
+      pub rise-written : rise 0 rows ≡ true → rise 0 qs ≡ true
+      rise-written r =
+          ap (rise 0) q
+          ∙ by_outcome (λ o. rise 0 (set_down_by k rows o) ≡ true) (λ z. r)
+          (λ t a h. rise-append 0 (length k.content) rows (references (length k.content) a) (omega arith) r w i
+          (rising_rise (length k.content) (references (length k.content) a) (rising_tokens (length k.content) a (references-wide e s t a h)))) x
 
-  pub ordered-written : (x : Option Tree) (t : Tables) (rises : Bool) → t.rising ≡ rises → rows_of t ≡ set_down_by k rows (written k n e s x) → (rises ≡ true → RisesOn (length k.content) rows) → ordered t ≡ true
-  ordered-written x t true h q r = ap (λ (z : Bool). cond z (rise 0 (rows_of t)) true) h ∙ (ap (rise 0) q ∙ rise-written x (r refl))
-  ordered-written x t false h q r = ap (λ (z : Bool). cond z (rise 0 (rows_of t)) true) h
-
--- a frame expression sets nothing down
-pub frame_rows : (k : Sink) (n : ℕ) (e : Encoding) (rows : List DebugInfoFixup) (x : Option Tree) → set_down_by k rows (written k n e in_frame x) ≡ rows
-frame_rows k n e rows x =
-    by_tokens k n e in_frame rows (λ ps. ps ≡ rows) refl (λ t a h. ap (λ (z : List DebugInfoFixup). rows ++ z) (frame_none e t a h (length k.content)) ∙ append-nil rows) x
+      pub inside-written : (k' : Sink) → k' ≡ grown_by k (written k n e s x) → inside (length k'.content) qs ≡ true
+      inside-written k' g =
+          ap₂ (λ (c : Sink) (ps : List DebugInfoFixup). inside (length c.content) ps) g q
+          ∙ by_outcome (λ o. inside (length (grown_by k o).content) (set_down_by k rows o) ≡ true) (λ z. i) (λ t a h. grown a) x
+        where
+          grown : (a : Tokens) → inside (length (k.content ++ bytes_of k.big a)) (rows ++ references (length k.content) a) ≡ true
+          grown a =
+              let m : ℕ = length k.content + size_of a in
+              rw (length-append k.content (bytes_of k.big a), length_bytes k.big a)
+              (inside-append m rows (references (length k.content) a) (inside-longer (length k.content) m rows (omega arith) i) (inside_tokens (length k.content) a))

@@ -1,7 +1,7 @@
 -- What a write answers and leaves, as the rules have it.
-use Rattle.std.proofs.Common.{◌≡◌, ℕ, ◌+◌, ◌-◌, ◌<◌, ◌≤◌, Bool, true, false, cond, not, eqb, ltb, List, [], ◌++◌, length, get_or, Some, None, Ok, Err, Option, Result, sym, refl, ap, ◌∙◌, arith}
+use Rattle.std.proofs.Common.{◌≡◌, ℕ, ◌+◌, ◌-◌, ◌≤◌, Bool, true, false, cond, not, ltb, List, [], ◌∷◌, ◌++◌, length, Some, None, Ok, Err, Option, Result, sym, refl, ap, ap₂, ◌∙◌, arith}
 use Rattle.std.proofs.lemmas.List.{append-nil}
-use Rattle.std.proofs.lemmas.Bool.{ne_eqb, le-ltb}
+use Rattle.std.proofs.lemmas.Bool.{le-ltb}
 use Rattle.common.specs.declared.encoding.Encoding.{Encoding}
 use Rattle.common.specs.declared.error.Error.{Error}
 use Rattle.common.specs.declared.error.Error.TheVariants.{NoUnit, NoRoom, TooManyReferences}
@@ -18,17 +18,11 @@ use Rattle.writer.specs.Meaning.{Sink, fits}
 use Rattle.unit.specs.Offsets.{unit_scope}
 use Rattle.unit.specs.declared.UnitOffsets.{UnitOffsets}
 use Rattle.claim.specs.Section.{State, unit_at}
-use Rattle.claim.specs.Calls.{Call, write, write_frame, Event, wrote, wrote_frame, refused_if, on_tree, on_value, writing, framing, refusal, answer, event, after}
+use Rattle.claim.specs.Calls.{refused, Call, write, write_frame, Event, wrote, wrote_frame, refused_if, on_tree, on_value, writing, framing, answer, event, after}
 use Rattle.claim.specs.Claim.{counted}
 use Rattle.claim.proofs.Frames.{frame_none}
-use Rattle.section_tables.specs.declared.tables.Tables.{Tables}
-use Rattle.section_tables.specs.View.{units_of, rows_of, view}
-use Rattle.section_tables.proofs.Lookups.{any_unit, rows_long, units_long, unit_at_lem}
-use Rattle.section_tables.proofs.Steps.{Follows, by_event, by_refusal}
-
--- a section of a sink, units and references
-abbrev section_of : Sink → List UnitOffsets → List DebugInfoFixup → State
-section_of k us ps = record { bytes = k.content; capacity = k.capacity; big = k.big; units = us; pending = ps }
+use Rattle.section_tables.specs.View.{last_of}
+use Rattle.section_tables.proofs.Steps.{section_of, last_known, some_begun, Follows, by_event}
 
 -- what an outcome of a write is, seen from the section
 pub record Seen (m : State) (k : Sink) (us : List UnitOffsets) (rows : List DebugInfoFixup) (o : Result Tokens Error) (ev : Event) : Type 0 where
@@ -36,13 +30,10 @@ pub record Seen (m : State) (k : Sink) (us : List UnitOffsets) (rows : List Debu
   pub leaves : section_of (grown_by k o) us (set_down_by k rows o) ≡ after m ev
 
 -- a call whose outcome is that
-by_seen : (k k' : Sink) (t t' : Tables) (c : Call) (o : Result Tokens Error) (r : Result ℕ Error) (ev : Event) → event (view k t) c ≡ ev →
-    Seen (view k t) k (units_of t) (rows_of t) o ev → units_of t' ≡ units_of t → Wrote o k k' (rows_of t) (rows_of t') r → Follows (view k t) c (counted r) (view k' t')
-by_seen k k' t t' c o r ev e s u w =
-    by_event ev e (ap counted w.answer ∙ s.answers)
-    (ap (λ (z : Sink). section_of z (units_of t') (rows_of t')) w.after
-    ∙ (ap (λ (z : List UnitOffsets). section_of (grown_by k o) z (rows_of t')) u
-    ∙ (ap (λ (z : List DebugInfoFixup). section_of (grown_by k o) (units_of t) z) w.down ∙ s.leaves)))
+by_seen : (k k' : Sink) (us : List UnitOffsets) (rows rows' : List DebugInfoFixup) (c : Call) (o : Result Tokens Error) (r : Result ℕ Error) (ev : Event) → event (section_of k us rows) c ≡ ev →
+    Seen (section_of k us rows) k us rows o ev → Wrote o k k' rows rows' r → Follows (section_of k us rows) c (counted r) (section_of k' us rows')
+by_seen k k' us rows rows' c o r ev e s w =
+    by_event ev e (ap counted w.answer ∙ s.answers) (ap₂ (λ (z : Sink) (ps : List DebugInfoFixup). section_of z us ps) w.after w.down ∙ s.leaves)
 
 module _ (k : Sink) (us : List UnitOffsets) (rows : List DebugInfoFixup) (n : ℕ) (many : length rows ≡ n) (e : Encoding) where
   -- in a unit
@@ -90,27 +81,28 @@ module _ (k : Sink) (us : List UnitOffsets) (rows : List DebugInfoFixup) (n : �
     seen_frame None = record { answers = refl; leaves = refl }
     seen_frame (Some t) = seen_frame_encoded t (encode e in_frame t) refl
 
-module _ (k : Sink) (t : Tables) (few : t.unit_count ≤ 8) (table : length t.units ≡ 8) (x : Option Tree) where
-  pub write_none : t.unit_count ≡ 0 → Follows (view k t) (write x) (refusal NoUnit) (view k t)
-  unfolding event
-  write_none h = by_refusal NoUnit (rw (units_long t few table, h) refl)
+module _ (k k' : Sink) (rows rows' : List DebugInfoFixup) (n : ℕ) (many : length rows ≡ n) (x : Option Tree) where
+  pub write_none : (us : List UnitOffsets) (e : Error) (r : Result ℕ Error) → last_of us ≡ Err e → r ≡ Err e → Follows (section_of k us rows) (write x) (counted r) (section_of k us rows)
+  unfolding event after
+  write_none [] e r h a = let same : r ≡ Err NoUnit = cc in by_event (refused NoUnit) refl (ap counted same) refl
+  write_none (v ∷ vs) e r h a = let l = last_known v vs in absurd cc
 
-  pub write_follows : (k' : Sink) (t' : Tables) (r : Result ℕ Error) → t.pending_count ≤ 512 → length t.pending ≡ 512 → 0 < t.unit_count → units_of t' ≡ units_of t →
-      Wrote (written k t.pending_count (get_or t.units (t.unit_count - 1) any_unit).encoding (unit_scope (get_or t.units (t.unit_count - 1) any_unit)) x) k k' (rows_of t) (rows_of t') r
-      → Follows (view k t) (write x) (counted r) (view k' t')
+  pub write_follows : (us : List UnitOffsets) (u : UnitOffsets) (a r : Result ℕ Error) → last_of us ≡ Ok u → a ≡ r → Wrote (written k n u.encoding (unit_scope u) x) k k' rows rows' r
+      → Follows (section_of k us rows) (write x) (counted a) (section_of k' us rows')
   unfolding event
-  write_follows k' t' r count long some u w =
-      let last = get_or t.units (t.unit_count - 1) any_unit in
-      let z : eqb t.unit_count 0 ≡ false = ne_eqb t.unit_count 0 (λ e. omega arith) in
-      let l : unit_at (units_of t) (t.unit_count - 1) ≡ last = unit_at_lem t few table (t.unit_count - 1) (omega arith) in
-      by_seen k k' t t' (write x) (written k t.pending_count last.encoding (unit_scope last) x) r
-      (on_tree x (λ y. on_value (encode last.encoding (unit_scope last) y) (writing (view k t) last.encoding (unit_scope last) y)))
-      (rw (units_long t few table, z, l) refl)
-      (seen_write k (units_of t) (rows_of t) t.pending_count (rows_long t count long) last.encoding (unit_scope last) x) u w
+  write_follows [] u a r h e w = absurd cc
+  write_follows (v ∷ vs) u a r h e w =
+      let us : List UnitOffsets = v ∷ vs in
+      let l = last_known v vs in
+      let same : unit_at us (length us - 1) ≡ u = cc in
+      by_seen k k' us rows rows' (write x) (written k n u.encoding (unit_scope u) x) a
+      (on_tree x (λ y. on_value (encode u.encoding (unit_scope u) y) (writing (section_of k us rows) u.encoding (unit_scope u) y)))
+      (rw (some_begun v vs, same) refl)
+      (seen_write k us rows n many u.encoding (unit_scope u) x) (record { answer = e ∙ w.answer; after = w.after; down = w.down })
 
-pub frame_follows : (k k' : Sink) (t t' : Tables) (x : Option Tree) (e : Encoding) (r : Result ℕ Error) → t.pending_count ≤ 512 → length t.pending ≡ 512 → units_of t' ≡ units_of t →
-    Wrote (written k t.pending_count e in_frame x) k k' (rows_of t) (rows_of t') r → Follows (view k t) (write_frame x e) (counted r) (view k' t')
-unfolding event
-frame_follows k k' t t' x e r count long u w =
-    by_seen k k' t t' (write_frame x e) (written k t.pending_count e in_frame x) r (on_tree x (λ y. on_value (encode e in_frame y) (framing (view k t) e y))) refl
-    (seen_frame k (units_of t) (rows_of t) t.pending_count (rows_long t count long) e count x) u w
+  pub frame_follows : (us : List UnitOffsets) (e : Encoding) (r : Result ℕ Error) → n ≤ 512 → Wrote (written k n e in_frame x) k k' rows rows' r
+      → Follows (section_of k us rows) (write_frame x e) (counted r) (section_of k' us rows')
+  unfolding event
+  frame_follows us e r few w =
+      by_seen k k' us rows rows' (write_frame x e) (written k n e in_frame x) r (on_tree x (λ y. on_value (encode e in_frame y) (framing (section_of k us rows) e y))) refl
+      (seen_frame k us rows n many e few x) w

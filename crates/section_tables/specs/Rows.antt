@@ -1,10 +1,13 @@
 -- Pending references in a table.
-use Rattle.std.specs.Prelude.{◌≡◌, ℕ, ◌+◌, ◌<◌, ◌≤◌, Bool, true, cond, ◌&&◌, List, [], ◌∷◌, ◌++◌, length, get_or, take, drop, Some, nat_le, slice_index_or}
+use Rattle.std.specs.Prelude.{◌≡◌, ℕ, ◌+◌, ◌<◌, Bool, true, ◌&&◌, List, [], ◌∷◌, ◌++◌, length, take, drop, Some, None, Option, nat_le, slice_index_or}
 use Rattle.common.specs.declared.fixup.DebugInfoFixup.{DebugInfoFixup}
+use Rattle.common.specs.declared.fixup.Fixups.{Fixups}
 use Rattle.dwarf.specs.Fixed.{is_width}
 use Rattle.claim.specs.Calls.{stands_at, first_of, without_first}
-use Rattle.section_tables.specs.declared.tables.Tables.{Tables}
-use Rattle.section_tables.specs.View.{rows_of}
+
+-- the references that are pending
+abbrev pub rows_of : Fixups → List DebugInfoFixup
+rows_of f = take f.count f.rows
 
 -- what a place past the last reference reads as
 abbrev pub no_row : DebugInfoFixup
@@ -20,9 +23,10 @@ abbrev pub rise : ℕ → List DebugInfoFixup → Bool
 rise least [] = true
 rise least (p ∷ ps) = nat_le least p.offset && rise (p.offset + 1) ps
 
--- where the offsets are known to rise, they do
-abbrev pub ordered : Tables → Bool
-ordered t = cond t.rising (rise 0 (rows_of t)) true
+-- whether every reference ends within so many bytes
+abbrev pub inside : ℕ → List DebugInfoFixup → Bool
+inside size [] = true
+inside size (p ∷ ps) = nat_le (p.offset + p.width) size && inside size ps
 
 -- the reference at a place is the first that begins at an offset and lies within so many bytes
 pub record FirstAt (size offset : ℕ) (ps : List DebugInfoFixup) (i : ℕ) : Type 0 where
@@ -31,12 +35,7 @@ pub record FirstAt (size offset : ℕ) (ps : List DebugInfoFixup) (i : ℕ) : Ty
   pub first : first_of (stands_at size offset) ps ≡ Some (slice_index_or ps i no_row)
   pub freed : without_first (stands_at size offset) ps ≡ take i ps ++ drop (i + 1) ps
 
--- the references before a place begin before an offset, and those from it on do not
-pub record SplitAt (offset : ℕ) (ps : List DebugInfoFixup) (i : ℕ) : Type 0 where
-  pub within : i ≤ length ps
-  pub before : (k : ℕ) → k < i → (get_or ps k no_row).offset < offset
-  pub behind : (k : ℕ) → i ≤ k → k < length ps → offset ≤ (get_or ps k no_row).offset
-
--- references whose offsets rise from an offset on rise behind these too
-abbrev pub RisesOn : ℕ → List DebugInfoFixup → Type 0
-RisesOn offset ps = (more : List DebugInfoFixup) → rise offset more ≡ true → rise 0 (ps ++ more) ≡ true
+-- the place of the first such reference, or that there is none
+abbrev pub Found : ℕ → ℕ → List DebugInfoFixup → Option ℕ → Type 0
+Found size offset ps (Some i) = FirstAt size offset ps i
+Found size offset ps None = first_of (stands_at size offset) ps ≡ None

@@ -1,7 +1,6 @@
 -- A range of a list replaced.
 use Rattle.std.proofs.Common.{◌≡◌, ℕ, ◌+◌, ◌-◌, ◌<◌, ◌≤◌, Bool, List, [], ◌∷◌, ◌++◌, length, get_or, take, drop, set, sym, ap, ◌∙◌, ⊎_elim, append_assoc, arith}
 use Rattle.std.proofs.lemmas.Bool.{cases_lt}
-use borrow.Rule.Slice.PartMut.{put_mid}
 use Rattle.std.proofs.lemmas.List.{length-take-le, take_more, set-append_right, length-drop, length-append, take_at, drop_more, take-append-drop, take_all, drop-drop, drop_at, take-take, drop-append-le, get_or-drop}
 use Rattle.writer.specs.Meaning.{replaced, Sink}
 
@@ -27,10 +26,6 @@ put_more t bs at i h f =
     = append_assoc (take i bs) (get_or bs i 0 ∷ []) (drop (at + i + 1) t) in
     let e6 : at + i + 1 ≡ at + (i + 1) = omega arith in
     cc
-
--- nothing laid over a table
-pub put_none : (t bs : List ℕ) (at : ℕ) → replaced t at (take 0 bs) ≡ t
-put_none t bs at = let z : at + 0 ≡ at = omega arith in rw z (take-append-drop at t)
 
 -- all laid over a table, in the terms of the front: the length grows by the bytes
 pub put_front : (t bs : List ℕ) (at n : ℕ) → n ≡ length bs → at ≤ length t → take (at + n) (replaced t at (take n bs)) ≡ take at t ++ bs
@@ -84,17 +79,8 @@ put_past t bs at k f g =
     let z : k + 0 ≡ k = omega arith in
     sym (ap (λ j. get_or (replaced t at bs) j 0) z) ∙ sym (get_or-drop k (replaced t at bs) 0 0) ∙ ap (λ l. get_or l 0 0) (put_rest t bs at k f g) ∙ get_or-drop k t 0 0 ∙ ap (λ j. get_or t j 0) z
 
--- a write to a part of a table, as the checker shows it
-pub mid_is : (t bs ys : List ℕ) (at k : ℕ) → ys ≡ bs → k ≡ length bs → put_mid at k t ys ≡ replaced t at bs
-mid_is t bs ys at k e f =
-    ap (λ l. take at t ++ (l ++ drop k (drop at t))) e ∙ ap (λ l. take at t ++ (bs ++ l)) (drop-drop k at t ∙ ap (λ j. drop (at + j) t) f)
-
 pub take_own : (m : ℕ) (t : List ℕ) → take (length (take m t)) t ≡ take m t
 take_own m t =
     ⊎_elim (λ h. ap (λ j. take j t) (length-take-le m t (omega arith)))
     (λ h. let e : take m t ≡ t = take_all m t h in take_all (length (take m t)) t (omega (arith, ap length e)) ∙ sym e)
     (cases_lt m (length t))
-
--- a write to a part of a table keeps the table's length
-pub mid_length : (t bs ys : List ℕ) (at k : ℕ) → ys ≡ bs → k ≡ length bs → at + length bs ≤ length t → length (put_mid at k t ys) ≡ length t
-mid_length t bs ys at k e f h = ap length (mid_is t bs ys at k e f) ∙ put-length t bs at h

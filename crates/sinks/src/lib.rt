@@ -3,4 +3,6 @@
 #![tactic(auto)]
 
 pub mod buffer;
+pub mod sink;
+pub mod table;
 pub mod words;

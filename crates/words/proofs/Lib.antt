@@ -1,4 +1,3 @@
 pub mod Numerals
 pub mod Pairs
-pub mod Prefixes
 pub mod Splitting

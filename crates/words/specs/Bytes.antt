@@ -10,12 +10,6 @@ byte_of None low = None
 byte_of (Some high) None = None
 byte_of (Some high) (Some low) = Some (high * 16 + low)
 
--- the byte that the first two digits write
-abbrev pub first_byte : List ℕ → Option ℕ
-first_byte [] = None
-first_byte (high ∷ []) = None
-first_byte (high ∷ low ∷ cs) = byte_of (hex_digit high) (hex_digit low)
-
 -- the bytes of an even number of digits
 abbrev pub bytes_in : List ℕ → Option (List ℕ)
 bytes_in [] = Some []

@@ -4,8 +4,6 @@ ghost use Rattle.std.specs.Prelude.{◌≡◌, ℕ, ◌+◌, ◌-◌, ◌*◌, �
 ghost use Rattle.std.specs.Option.{option_map};
 ghost use Rattle.words.specs.Numbers.{hex_digit, digit_in, numeral, below, plain, number_of, signed_of};
 
-use crate::text::strip;
-
 /// The value of a hexadecimal digit of either case.
 pub fn hex_digit(c: u8) -> Option<u8>
     ensures { result ≡ hex_digit c }
@@ -22,8 +20,7 @@ pub fn hex_digit(c: u8) -> Option<u8>
 fn digit_in(base: u64, c: u8) -> Option<u64>
     ensures { result ≡ digit_in base c }
 {
-    let digit = u64::from(hex_digit(c)?);
-    if digit < base { Some(digit) } else { None }
+    hex_digit(c).map(u64::from).filter(|digit| *digit < base)
 }
 
 /// The number that one or more digits write, if it fits 64 bits.
@@ -34,11 +31,9 @@ fn numeral_in(base: u64, digits: &[u8]) -> Option<u64>
     if digits.is_empty() {
         return None;
     }
-    let mut number: u64 = 0;
-    for c in digits {
-        number = push_digit(base, number, *c)?;
-    }
-    Some(number)
+    digits
+        .iter()
+        .try_fold(0, |number, c| push_digit(base, number, *c))
 }
 
 /// The number with one more digit at its end, if it fits 64 bits.
@@ -53,7 +48,7 @@ fn push_digit(base: u64, number: u64, c: u8) -> Option<u64>
 fn plain_number(word: &[u8]) -> Option<u64>
     ensures { result ≡ below (2 ^ 64) (plain word.now) }
 {
-    match strip(word, b"0x") {
+    match word.strip_prefix(b"0x") {
         Some(digits) => numeral_in(16, digits),
         None => numeral_in(10, word),
     }
@@ -63,28 +58,15 @@ fn plain_number(word: &[u8]) -> Option<u64>
 pub fn unsigned(word: &[u8], most: u64) -> Option<u64>
     ensures { result ≡ number_of most word.now }
 {
-    let number = plain_number(word)?;
-    if number <= most { Some(number) } else { None }
+    plain_number(word).filter(|number| *number <= most)
 }
 
 /// A word that is a number of 64 bits with a sign.
 pub fn signed(word: &[u8]) -> Option<i64>
     ensures { result ≡ signed_of word.now }
 {
-    match strip(word, b"-") {
-        Some(digits) => Some(negated(unsigned(digits, 1 << 63)?)),
-        None => Some(unsigned(word, (1 << 63) - 1)? as i64),
-    }
-}
-
-/// Zero less a number.
-fn negated(number: u64) -> i64
-    requires { number ≤ 2 ^ 63 }
-    ensures { result ≡ neg_ℤ (pos number) }
-{
-    if number == 1 << 63 {
-        i64::MIN
-    } else {
-        -(number as i64)
+    match word.strip_prefix(b"-") {
+        Some(digits) => i64::try_from(-i128::from(plain_number(digits)?)).ok(),
+        None => i64::try_from(plain_number(word)?).ok(),
     }
 }

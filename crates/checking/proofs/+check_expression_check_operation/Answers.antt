@@ -1,128 +1,123 @@
-use Rattle.std.proofs.Common.{◌≡◌, ℕ, ◌+◌, ◌<◌, length, get_or, drop, Ok, Err, sym, ap, ◌∙◌, subst, arith, rules}
+use Rattle.std.proofs.Common.{◌≡◌, ℕ, ◌+◌, ◌<◌, get_or, drop, Ok, Err, sym, ap, ◌∙◌, subst, arith, rules}
 use Rattle.std.proofs.lemmas.Result.{err_from_is_err_and}
+use Rattle.op.specs.declared.operation.Operation.{Operation}
+use Rattle.book.specs.Holds.{holds}
 use Rattle.book_state.specs.declared.shape.Shape.TheVariants.{Nesting}
 use Rattle.book_state.specs.Operations.{shape}
-use Rattle.book_state.specs.State.{op_at, expression_at, operations_of, depth_by, weight_of, weight_by}
-use Rattle.book_tables.specs.View.{view}
+use Rattle.book_state.specs.State.{no_operation, expression_at, operations_of, depth_by, weight_of, weight_by}
 use Rattle.rules.specs.Encode.{encode_tree, starts}
-use Rattle.rules.specs.Results.{plus, amount}
+use Rattle.rules.specs.Results.{plus}
+use Rattle.rules.specs.Tree as tree
 use Rattle.unit.specs.Offsets.{scope_of}
-use Rattle.book_tree.specs.Store.{InBook, size_in, tree_in}
+use Rattle.book_tree.specs.Store.{InBook, store_of, tree_in}
 use Rattle.book_tree.proofs.Shapes.{inside_book}
 use Rattle.book_tree.proofs.Sums.{plus_start}
-use Rattle.book_tree.proofs.Trees.{tree_is, depth_at, operations_more, operations_all, length_operations}
+use Rattle.book_tree.proofs.Trees.{items_rows, item_counted, item_at, item_depth, item_then, item_next}
 use Rattle.positions.proofs.Filling.{filled-own, filled_inner}
-use Rattle.positions.proofs.Starts.{starts_first, next_start}
-use Rattle.checking.specs.Counts.{counted}
-use Rattle.checking.proofs.Encoded.{rows_encode, count_more, count_stop, count_all}
-use Rattle.checking.proofs.Counting.{made_le, after_three, branching_count, plain-count}
+use Rattle.positions.proofs.Reading.{next_at}
+use Rattle.positions.proofs.Starts.{starts_first}
+use Rattle.checking.specs.Counts.{counted, encode_by}
+use Rattle.checking.proofs.Encoded.{rows_encode, count_more, count_stop}
+use Rattle.checking.proofs.Counting.{made_le, branch-counted, plain-count}
 use Rattle.checking.proofs.+check_expression_check_operation.Goals as goal
 
-pub check_expression-loop-i-init : goal.check_expression-loop-i-init
-check_expression-loop-i-init t c =
-    let b = view c.args.tables.now in let k = c.args.number in let e = c.args.encoding in let s = scope_of c.args.unit_offsets in
+pub check_expression-loop-index-init : goal.check_expression-loop-index-init
+check_expression-loop-index-init t c =
+    let b = holds c.args.book.now in let w = c.args.book.now.whole in let k = c.args.number in
+    let e = c.args.context.encoding in let s = scope_of c.args.context.unit_offsets in
+    let xs = c.operations-op-items.result.now in let are = c.operations-op-items.ensures.value in
     let hs = starts e s 0 (tree_in b k) in
-    let w = c.requires.whole.weighed k c.requires.there in (
-      plus_start (counted (rows_encode e s b hs (get_or hs 0 0) (operations_of b k)))
-          ∙ (ap (λ (p : ℕ). counted (rows_encode e s b hs p (operations_of b k))) (starts_first e s 0 (tree_in b k))
-          ∙ ap (λ t. counted (encode_tree e s hs 0 t)) (sym (tree_is b c.requires.whole k c.requires.there))),
+    let n = w.weighed k c.requires.there in
+    let m : weight_of b.expressions xs ≡ weight_of b.expressions (operations_of b k) = ap (weight_of b.expressions) are in (
+      plus_start (counted (rows_encode e s b hs (get_or hs 0 0) xs))
+          ∙ (ap (λ (p : ℕ). counted (rows_encode e s b hs p xs)) (starts_first e s 0 (tree_in b k))
+          ∙ ap (λ t. counted (encode_tree e s hs 0 t)) (sym (items_rows b w k c.requires.there xs are))),
       omega arith,
     )
 
 pub check_expression-check_operation-requires : goal.check_expression-check_operation-requires
 check_expression-check_operation-requires t c =
-    let b = view c.args.tables.now in
-    let d = depth_at b c.requires.whole c.args.number c.loop-i.i c.requires.there c.loop-i-test.true in
-    (search rules, (c.requires.whole, (c.requires.there, (c.loop-i-test.true, (c.requires.wide, c.requires.filled)))))
+    let b = holds c.args.book.now in let w = c.args.book.now.whole in let k = c.args.number in let i = c.loop-index.index in
+    let xs = c.operations-op-items.result.now in let are = c.operations-op-items.ensures.value in
+    let d = item_depth b w k c.requires.there xs are i c.loop-index-test.true in
+    (search rules, (c.requires.there, (item_counted b w k c.requires.there xs are i c.loop-index-test.true, (item_at b w k c.requires.there xs are i c.loop-index-test.true, c.requires.filled))))
 
-pub check_expression-returns-in_err-one : goal.check_expression-returns-in_err-one
-check_expression-returns-in_err-one t c =
-    let b = view c.args.tables.now in let k = c.args.number in let e = c.args.encoding in let s = scope_of c.args.unit_offsets in
-    let hs = starts e s 0 (tree_in b k) in let i = c.loop-i.i in
-    let p = err_from_is_err_and c.from_residual.result c.from_residual.ensures.1 in
-    let m = operations_more b c.requires.whole k i c.requires.there c.loop-i-test.true in
-    rw (p.1, p.2) (record {
-      value = count_stop e s b hs (get_or hs i 0) (drop i (operations_of b k)) c.loop-i.count _ _ _ c.in_err-one.field-0.0 m c.in_err-one.ensures.value c.loop-i.invariant.0;
-      few = tt;
-    })
-
-pub check_expression-loop-i-preserved : goal.check_expression-loop-i-preserved
-check_expression-loop-i-preserved t c =
-    let b = view c.args.tables.now in let k = c.args.number in let e = c.args.encoding in let s = scope_of c.args.unit_offsets in
-    let hs = starts e s 0 (tree_in b k) in let i = c.loop-i.i in let st = (expression_at b k).start in
-    let x = op_at b (st + i) in
-    let m = operations_more b c.requires.whole k i c.requires.there c.loop-i-test.true in
-    let w : weight_of b.expressions (drop i (operations_of b k)) ≡ weight_by b.expressions (shape x) + weight_of b.expressions (drop (i + 1) (operations_of b k)) =
-    ap (weight_of b.expressions) m in
-    let l = c.in_ok-one.ensures.few in
-    let n = length_operations b c.requires.whole k c.requires.there in
-    let q : i < length (operations_of b k) = omega (arith, c.loop-i-test.true) in
-    let ts = tree_is b c.requires.whole k c.requires.there in
-    let nx : get_or hs (i + 1) 0 ≡ get_or hs i 0 + amount (size_in e s b x) =
-    ap (λ y. get_or (starts e s 0 y) (i + 1) 0) ts ∙ (next_start e s b i 0 (operations_of b k) (drop (i + 1) (operations_of b k)) x q m ∙ sym (ap (λ y. get_or (starts e s 0 y) i 0 + amount (size_in e s b x)) ts)) in (
-      ap (λ (p : ℕ). plus (Ok (c.loop-i.count + c.in_ok-one.one)) (counted (rows_encode e s b hs p (drop (i + 1) (operations_of b k))))) nx
-          ∙ count_more e s b hs (get_or hs i 0) (drop i (operations_of b k)) c.loop-i.count _ x (drop (i + 1) (operations_of b k)) c.in_ok-one.one m c.in_ok-one.ensures.value c.loop-i.invariant.0,
-      omega (arith, c.loop-i.invariant.1),
-    )
-
-pub check_expression-returns : goal.check_expression-returns
-check_expression-returns t c =
-    let b = view c.args.tables.now in let k = c.args.number in let e = c.args.encoding in let s = scope_of c.args.unit_offsets in
+pub check_expression-returns-in_err-count-clause-value : goal.check_expression-returns-in_err-count-clause-value
+check_expression-returns-in_err-count-clause-value t c =
+    let b = holds c.args.book.now in let w = c.args.book.now.whole in let k = c.args.number in
+    let e = c.args.context.encoding in let s = scope_of c.args.context.unit_offsets in
+    let xs = c.operations-op-items.result.now in let i = c.loop-index.index in
     let hs = starts e s 0 (tree_in b k) in
-    let m = operations_all b c.requires.whole k c.loop-i.i c.requires.there c.loop-i-test.false in
-    record {
-      value = count_all e s b hs (get_or hs c.loop-i.i 0) (drop c.loop-i.i (operations_of b k)) c.loop-i.count _ m c.loop-i.invariant.0;
-      few = omega (arith, c.loop-i.invariant.1);
-    }
+    let p = err_from_is_err_and c.from_residual.result c.from_residual.ensures.1 in
+    let m = item_next b w k c.requires.there xs c.operations-op-items.ensures.value i c.loop-index-test.true in
+    rw (p.1, p.2) (count_stop e s b hs (get_or hs i 0) (drop i xs) c.loop-index.count _ _ _ c.in_err-count.field-0.0 m c.in_err-count.ensures.value c.loop-index.invariant.0)
+
+pub check_expression-overflow_add-count : goal.check_expression-overflow_add-count
+check_expression-overflow_add-count t c =
+    let b = holds c.args.book.now in let w = c.args.book.now.whole in let k = c.args.number in
+    let xs = c.operations-op-items.result.now in let i = c.loop-index.index in
+    let m = item_then b w k c.requires.there xs c.operations-op-items.ensures.value i c.loop-index-test.true in
+    let n : weight_of b.expressions (drop i xs) ≡ weight_by b.expressions (shape (get_or xs i no_operation)) + weight_of b.expressions (drop (i + 1) xs) = ap (weight_of b.expressions) m in
+    let f = c.in_ok-count.ensures.few in
+    let h = w.counted.light k in
+    record { fits = omega (arith, c.loop-index.invariant.1) }
+
+pub check_expression-loop-index-preserved : goal.check_expression-loop-index-preserved
+check_expression-loop-index-preserved t c =
+    let b = holds c.args.book.now in let w = c.args.book.now.whole in let k = c.args.number in
+    let e = c.args.context.encoding in let s = scope_of c.args.context.unit_offsets in
+    let xs = c.operations-op-items.result.now in let are = c.operations-op-items.ensures.value in let i = c.loop-index.index in
+    let hs = starts e s 0 (tree_in b k) in
+    let then = item_then b w k c.requires.there xs are i c.loop-index-test.true in
+    let n : weight_of b.expressions (drop i xs) ≡ weight_by b.expressions (shape (get_or xs i no_operation)) + weight_of b.expressions (drop (i + 1) xs) = ap (weight_of b.expressions) then in
+    let f = c.in_ok-count.ensures.few in
+    let m = item_next b w k c.requires.there xs are i c.loop-index-test.true in
+    let next = next_at e s b w k c.requires.there i (item_counted b w k c.requires.there xs are i c.loop-index-test.true) in (
+      ap (λ (p : ℕ). plus (Ok (c.loop-index.count + c.in_ok-count.field-0)) (counted (rows_encode e s b hs p (drop (i + 1) xs)))) next
+          ∙ count_more e s b hs (get_or hs i 0) (drop i xs) c.loop-index.count _ _ _ c.in_ok-count.field-0 m c.in_ok-count.ensures.value c.loop-index.invariant.0,
+      omega (arith, c.loop-index.invariant.1),
+    )
 
 pub check_operation-check_expression-requires : goal.check_operation-check_expression-requires
 check_operation-check_expression-requires t c =
-    let b = view c.args.tables.now in let k = c.args.number in let i = c.args.index in
+    let b = holds c.args.book.now in let w = c.args.book.now.whole in let k = c.args.number in let i = c.args.index in
     let m = c.in-EntryValue.inner in
-    let q : shape (op_at b ((expression_at b k).start + i)) ≡ Nesting m = ap shape c.in-EntryValue.is in
-    let d : depth_by b.expressions (shape (op_at b ((expression_at b k).start + i))) ≡ (expression_at b m).depth + 1 = ap (depth_by b.expressions) q in
-    let h : m < b.sealed_count = subst (InBook b) q (inside_book b c.requires.whole k c.requires.there i c.requires.inside) in
-    (search rules, (c.requires.whole, (h, (c.requires.wide, filled_inner c.args.encoding (scope_of c.args.unit_offsets) b c.args.ends.now k c.requires.filled i m c.requires.inside q))))
+    let q : shape c.args.op ≡ Nesting m = ap shape c.in-EntryValue.is in
+    let d : depth_by b.expressions (shape c.args.op) ≡ (expression_at b m).depth + 1 = ap (depth_by b.expressions) q in
+    let at = ap shape (sym c.requires.here) ∙ q in
+    let h : m < b.sealed_count = subst (InBook b) at (inside_book b w k c.requires.there i c.requires.inside) in
+    (search rules, (h, filled_inner c.args.context.encoding (scope_of c.args.context.unit_offsets) b c.args.ends.now.places.now k c.requires.filled i m c.requires.inside at))
 
-pub check_operation-displacement-requires : goal.check_operation-displacement-requires
-check_operation-displacement-requires t c =
-    let b = view c.args.tables.now in let k = c.args.number in
-    record {
-      whole = c.requires.whole;
-      there = c.requires.there;
-      inside = c.requires.inside;
-      wide = c.requires.wide;
-      small = λ j l. (filled-own c.args.encoding (scope_of c.args.unit_offsets) b c.args.ends.now k c.requires.filled j l k c.requires.there (omega arith) (omega arith)).1;
-    }
+pub check_operation-displacement-requires-clause-small : goal.check_operation-displacement-requires-clause-small
+check_operation-displacement-requires-clause-small t c =
+    let b = holds c.args.book.now in let k = c.args.number in
+    λ j l. (filled-own c.args.context.encoding (scope_of c.args.context.unit_offsets) b c.args.ends.now.places.now k c.requires.filled j l k c.requires.there (omega arith) (omega arith)).1
 
-pub check_operation-returns-in_err-displacement-in-Skip : goal.check_operation-returns-in_err-displacement-in-Skip
-check_operation-returns-in_err-displacement-in-Skip t c =
-    let b = view c.args.tables.now in let k = c.args.number in let i = c.args.index in let e = c.args.encoding in let s = scope_of c.args.unit_offsets in
-    let hs = starts e s 0 (tree_in b k) in
+pub check_operation-returns-in_err-displacement-in-Skip-clause-value : goal.check_operation-returns-in_err-displacement-in-Skip-clause-value
+check_operation-returns-in_err-displacement-in-Skip-clause-value t c =
+    let b = holds c.args.book.now in let w = c.args.book.now.whole in let k = c.args.number in
+    let e = c.args.context.encoding in let s = scope_of c.args.context.unit_offsets in
     let p = err_from_is_err_and c.from_residual.result c.from_residual.ensures.1 in
-    let own = filled-own e s b c.args.ends.now k c.requires.filled in
-    let n = after_three e s b c.requires.whole k i c.in-Skip.target c.requires.there c.requires.inside c.in-Skip.is in
-    rw (p.1, p.2) (record {
-      value = branching_count e s b hs (get_or hs i 0) (op_at b ((expression_at b k).start + i)) c.in-Skip.target (get_or hs (i + 1) 0) (Err c.in_err-displacement-in-Skip.field-0.0) c.in-Skip.is n (c.in_err-displacement-in-Skip.ensures e s own);
-      few = tt;
-    })
+    rw (p.1, p.2)
+    (branch-counted e s b w k c.args.index c.requires.there c.requires.inside c.args.op c.requires.here c.in-Skip.target c.in-Skip.is (Err c.in_err-displacement-in-Skip.field-0.0)
+    (c.in_err-displacement-in-Skip.ensures e s (filled-own e s b c.args.ends.now.places.now k c.requires.filled)))
 
-pub check_operation-returns-in_ok-displacement-in-Skip : goal.check_operation-returns-in_ok-displacement-in-Skip
-check_operation-returns-in_ok-displacement-in-Skip t c =
-    let b = view c.args.tables.now in let k = c.args.number in let i = c.args.index in let e = c.args.encoding in let s = scope_of c.args.unit_offsets in
-    let hs = starts e s 0 (tree_in b k) in
-    let own = filled-own e s b c.args.ends.now k c.requires.filled in
-    let n = after_three e s b c.requires.whole k i c.in-Skip.target c.requires.there c.requires.inside c.in-Skip.is in
-    record {
-      value = branching_count e s b hs (get_or hs i 0) (op_at b ((expression_at b k).start + i)) c.in-Skip.target (get_or hs (i + 1) 0) (Ok c.in_ok-displacement-in-Skip.field-0) c.in-Skip.is n (c.in_ok-displacement-in-Skip.ensures e s own);
-      few = omega arith;
-    }
+pub check_operation-returns-in_ok-displacement-in-Skip-clause-value : goal.check_operation-returns-in_ok-displacement-in-Skip-clause-value
+check_operation-returns-in_ok-displacement-in-Skip-clause-value t c =
+    let b = holds c.args.book.now in let w = c.args.book.now.whole in let k = c.args.number in
+    let e = c.args.context.encoding in let s = scope_of c.args.context.unit_offsets in
+    branch-counted e s b w k c.args.index c.requires.there c.requires.inside c.args.op c.requires.here c.in-Skip.target c.in-Skip.is (Ok c.in_ok-displacement-in-Skip.field-0)
+    (c.in_ok-displacement-in-Skip.ensures e s (filled-own e s b c.args.ends.now.places.now k c.requires.filled))
 
 pub check_operation-returns-in_default : goal.check_operation-returns-in_default
 check_operation-returns-in_default t c =
-    let b = view c.args.tables.now in let k = c.args.number in let i = c.args.index in let e = c.args.encoding in let s = scope_of c.args.unit_offsets in
-    let hs = starts e s 0 (tree_in b k) in let x = op_at b ((expression_at b k).start + i) in
+    let b = holds c.args.book.now in let w = c.args.book.now.whole in let k = c.args.number in let i = c.args.index in
+    let e = c.args.context.encoding in let s = scope_of c.args.context.unit_offsets in
+    let hs = starts e s 0 (tree_in b k) in let x = c.args.op in
+    let inside : InBook b (shape x) = subst (λ (y : Operation). InBook b (shape y)) (sym c.requires.here) (inside_book b w k c.requires.there i c.requires.inside) in
     record {
-      value = plain-count e s b hs (get_or hs i 0) x c.check_plain.result (inside_book b c.requires.whole k c.requires.there i c.requires.inside) c.in_default.not-EntryValue c.in_default.not-Skip c.in_default.not-Branch c.check_plain.ensures.value;
+      value =
+          plain-count e s b hs (get_or hs i 0) x c.check_plain.result inside c.in_default.not-EntryValue c.in_default.not-Skip c.in_default.not-Branch c.check_plain.ensures.value
+          ∙ ap (λ y. counted (encode_by e s hs (get_or hs i 0) (tree_in b) (tree.shape (store_of b) y))) c.requires.here;
       few = made_le c.check_plain.result 1 (weight_by b.expressions (shape x)) (omega arith) c.check_plain.ensures.few;
     }

@@ -1,11 +1,7 @@
 use Rattle.book_state.proofs.Keeping.{keep-nested}
-use Rattle.book_state.proofs.Recovered.{recovered}
 use Rattle.book_tables.specs.View.{view}
 use Rattle.book.proofs.Kept.{kept}
 use Rattle.book.proofs.book.Book.add_nested.Goals as goal
-
-pub add_nested-requires : goal.add_nested-requires
-add_nested-requires c = (recovered (view c.args.self.now.tables) c.args.self.now.whole).counted
 
 pub invariant_of-self : goal.invariant_of-self
 invariant_of-self c = kept (view c.args.self.now.tables) (view c.add_nested.new.self) _ _ c.args.self.now.whole c.args.self.now.ordered (keep-nested c.args.number (view c.args.self.now.tables)) c.add_nested.ensures

@@ -1,13 +1,18 @@
+use Rattle.std.proofs.Common.{◌<◌, ◌≤◌, length, rules}
+use Rattle.section_tables.specs.Rows.{rows_of}
+use Rattle.section_tables.specs.View.{units_of}
 use Rattle.section_tables.proofs.Steps.{finish_still, finish_follows}
 use Rattle.section.proofs.Carrying.{stepped}
 use Rattle.section.proofs.section.Section.finish.Goals as goal
 
-pub returns-then-self-gt0 : goal.returns-then-self-gt0
-returns-then-self-gt0 g c =
-    stepped (finish_still (g.W.Writer.means c.args.self.now.sink) c.args.self.now.tables c.args.self.now.pending c.args.self.now.pending_table c.if-self-gt0.true)
+pub returns-then-not-is_empty : goal.returns-then-not-is_empty
+returns-then-not-is_empty g c =
+    let t = c.args.self.now.tables in
+    let some : 0 < length (rows_of t.pending) = search rules in
+    stepped (finish_still (g.W.Writer.means c.args.self.now.sink) (units_of t.units) (rows_of t.pending) some)
 
 pub returns : goal.returns
 returns g c =
-    stepped
-    (finish_follows (g.W.Writer.means c.args.self.now.sink) c.args.self.now.tables c.args.self.now.pending c.args.self.now.pending_table c.len.result
-    c.if-self-gt0.false c.len.ensures.value)
+    let t = c.args.self.now.tables in
+    let none : length (rows_of t.pending) ≤ 0 = search rules in
+    stepped (finish_follows (g.W.Writer.means c.args.self.now.sink) (units_of t.units) (rows_of t.pending) c.len.result none c.len.ensures.value)

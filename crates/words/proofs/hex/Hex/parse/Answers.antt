@@ -1,16 +1,10 @@
-use Rattle.std.proofs.Common.{◌≡◌, ℕ, false, List, None, Some, Option, is_some, refl, sym, ◌∙◌}
+use Rattle.std.proofs.Common.{◌≡◌, false, codes, refl, sym, ◌∙◌}
+use Rattle.std.specs.Str.{bytes_eq}
 use Rattle.std.proofs.lemmas.Bool.{cond-false}
-use Rattle.words.proofs.Pairs.{front_all}
+use Rattle.words.proofs.Pairs.{denoted_all}
 use Rattle.words.proofs.hex.Hex.parse.Goals as goal
 
-nothing_is : (o : Option (List ℕ)) → false ≡ is_some o → None ≡ o
-nothing_is None e = refl
-nothing_is (Some bs) e = cc
-
-pub returns-then-are_pairs : goal.returns-then-are_pairs
-returns-then-are_pairs c =
-    front_all c.args.word.now (sym c.if-are_pairs.ensures) ∙ sym (cond-false _ _ _ (sym c.if-is.ensures))
-
-pub returns-else-are_pairs : goal.returns-else-are_pairs
-returns-else-are_pairs c =
-    nothing_is _ c.if-are_pairs.ensures ∙ sym (cond-false _ _ _ (sym c.if-is.ensures))
+pub returns : goal.returns
+returns c =
+    let other : bytes_eq c.args.word.now (codes "-") ≡ false = cc in
+    rw (c.then_some.ensures, c.are_pairs.ensures) (denoted_all (record { digits = c.args.word }) _ refl ∙ sym (cond-false _ _ _ other))

@@ -1,9 +1,0 @@
-use Rattle.std.proofs.Common.{◌≤◌}
-use Rattle.script.specs.Readers.{left}
-use Rattle.runner.proofs.run.run_calls.Given as goal
-
-abbrev pub invariant-loop-item : goal.invariant-loop-item
-invariant-loop-item g l = left l.reader ≤ left l.initial.reader
-
-abbrev pub decreases-loop-item : goal.decreases-loop-item
-decreases-loop-item g l = left l.reader
