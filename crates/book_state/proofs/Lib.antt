@@ -9,4 +9,5 @@ pub mod Withdrawn
 pub mod Opened
 pub mod Keeping
 pub mod Raw
+pub mod Nested
 pub mod Kept

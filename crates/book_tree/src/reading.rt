@@ -1,28 +1,31 @@
 //! A book's sealed expressions, to be read.
 
 ghost use Rattle.std.specs.Prelude.{◌≡◌, ◌+◌, ◌<◌, ◌≤◌, length};
-ghost use Rattle.book.specs.Holds.{holds};
 ghost use Rattle.book_state.specs.State.{expression_at, operations_of};
+ghost use Rattle.book_state.specs.Whole.{Whole};
+ghost use Rattle.book_tables.specs.View.{view};
 
-use book::book::Book;
 use book_state::expression::Expression;
+use book_tables::tables::Tables;
 use op::operation::Operation;
 
 /// A sealed expression.
-pub fn expression(book: &Book<'_>, number: usize) -> Expression
-    requires { number < (holds book.now).sealed_count }
-    ensures value { result ≡ expression_at (holds book.now) number }
+pub fn expression(tables: &Tables<'_>, number: usize) -> Expression
+    requires whole { Whole (view tables.now) }
+    requires there { number < tables.now.sealed_count }
+    ensures value { result ≡ expression_at (view tables.now) number }
     ensures within { result.start + result.count ≤ 4096 }
 {
-    book.tables().expressions[number]
+    tables.expressions[number]
 }
 
 /// The operations of a sealed expression.
-pub fn operations<'b>(book: &'b Book<'_>, number: usize) -> &'b [Operation]
-    requires { number < (holds book.now).sealed_count }
-    ensures value { result.now ≡ operations_of (holds book.now) number }
-    ensures count { length result.now ≡ (expression_at (holds book.now) number).count }
+pub fn operations<'b>(tables: &'b Tables<'_>, number: usize) -> &'b [Operation]
+    requires whole { Whole (view tables.now) }
+    requires there { number < tables.now.sealed_count }
+    ensures value { result.now ≡ operations_of (view tables.now) number }
+    ensures count { length result.now ≡ (expression_at (view tables.now) number).count }
 {
-    let expression = expression(book, number);
-    &book.tables().operations[expression.start..expression.start + expression.count]
+    let expression = expression(tables, number);
+    &tables.operations[expression.start..expression.start + expression.count]
 }

@@ -3,21 +3,21 @@
 #![tactic(auto)]
 
 ghost use Rattle.std.specs.Prelude.{◌≡◌, ℕ, ◌+◌, ◌<◌, ◌≤◌, List, length, pos, IfOk, Ok};
-ghost use Rattle.book.specs.Holds.{holds};
 ghost use Rattle.book_state.specs.Operations.{shape};
 ghost use Rattle.book_state.specs.State.{data_by, expression_at, op_at, weight_by};
+ghost use Rattle.book_state.specs.Whole.{Whole};
+ghost use Rattle.book_tables.specs.View.{view};
 ghost use Rattle.book_tree.specs.Store.{tree_in};
 ghost use Rattle.checking.specs.Counts.{counted, encode_at};
 ghost use Rattle.positions.specs.Ends.{Filled};
 ghost use Rattle.rules.specs.Encode.{encode_op, encode_tree, starts};
 ghost use Rattle.unit.specs.Offsets.{scope_of};
 
-use book::book::Book;
+use book_tables::tables::Tables;
 use book_tree::reading::operations;
 use common::error::Error;
 use head::operand::{address_in, placeholder};
 use op::operation::Operation;
-use positions::Ends;
 use positions::branch::displacement;
 use unit::{Context, pointer_size};
 use writer::fixed::in_width;
@@ -25,19 +25,21 @@ use writer::fixed::in_width;
 /// How many references a sealed expression sets down, nested ones included, or the first refusal of its operations.
 #[cycle(check_expression_check_operation)]
 pub fn check_expression(
-    book: &Book<'_>,
+    tables: &Tables<'_>,
     number: usize,
     context: Context<'_>,
-    ends: &Ends<'_>,
+    ends: &[usize],
 ) -> Result<usize, Error>
-    requires there { number < (holds book.now).sealed_count }
-    requires filled { Filled context.encoding (scope_of context.unit_offsets) (holds book.now) ends.now.places.now number }
-    ensures value { result ≡ counted (encode_tree context.entry.encoding (scope_of context.entry.unit_offsets) (starts context.entry.encoding (scope_of context.entry.unit_offsets) 0 (tree_in (holds book.now) number)) 0 (tree_in (holds book.now) number)) }
-    ensures few { IfOk result (λ n. n ≤ (expression_at (holds book.now) number).weight) }
+    requires whole { Whole (view tables.now) }
+    requires there { number < tables.now.sealed_count }
+    requires wide { 4096 ≤ length ends.now }
+    requires filled { Filled context.encoding (scope_of context.unit_offsets) (view tables.now) ends.now number }
+    ensures value { result ≡ counted (encode_tree context.entry.encoding (scope_of context.entry.unit_offsets) (starts context.entry.encoding (scope_of context.entry.unit_offsets) 0 (tree_in (view tables.now) number)) 0 (tree_in (view tables.now) number)) }
+    ensures few { IfOk result (λ n. n ≤ (expression_at (view tables.now) number).weight) }
 {
     let mut count = 0;
-    for (index, op) in operations(book, number).iter().enumerate() {
-        count += check_operation(book, number, index, *op, context, ends)?;
+    for (index, op) in operations(tables, number).iter().enumerate() {
+        count += check_operation(tables, number, index, *op, context, ends)?;
     }
     Ok(count)
 }
@@ -45,24 +47,26 @@ pub fn check_expression(
 /// How many references operation `index` of an expression sets down, with the expression that it nests, or its first refusal.
 #[cycle(check_expression_check_operation)]
 fn check_operation(
-    book: &Book<'_>,
+    tables: &Tables<'_>,
     number: usize,
     index: usize,
     op: Operation,
     context: Context<'_>,
-    ends: &Ends<'_>,
+    ends: &[usize],
 ) -> Result<usize, Error>
-    requires there { number < (holds book.now).sealed_count }
-    requires inside { index < (expression_at (holds book.now) number).count }
-    requires here { op ≡ op_at (holds book.now) ((expression_at (holds book.now) number).start + index) }
-    requires filled { Filled context.encoding (scope_of context.unit_offsets) (holds book.now) ends.now.places.now number }
-    ensures value { result ≡ counted (encode_at context.entry.encoding (scope_of context.entry.unit_offsets) (holds book.now) number index) }
-    ensures few { IfOk result (λ n. n ≤ weight_by (holds book.now).expressions (shape op)) }
+    requires whole { Whole (view tables.now) }
+    requires there { number < tables.now.sealed_count }
+    requires inside { index < (expression_at (view tables.now) number).count }
+    requires here { op ≡ op_at (view tables.now) ((expression_at (view tables.now) number).start + index) }
+    requires wide { 4096 ≤ length ends.now }
+    requires filled { Filled context.encoding (scope_of context.unit_offsets) (view tables.now) ends.now number }
+    ensures value { result ≡ counted (encode_at context.entry.encoding (scope_of context.entry.unit_offsets) (view tables.now) number index) }
+    ensures few { IfOk result (λ n. n ≤ weight_by tables.now.expressions (shape op)) }
 {
     match op {
-        Operation::EntryValue(inner) => check_expression(book, inner, context, ends),
+        Operation::EntryValue(inner) => check_expression(tables, inner, context, ends),
         Operation::Skip(target) | Operation::Branch(target) => {
-            displacement(book, number, index, target, ends)?;
+            displacement(tables, number, index, target, ends)?;
             Ok(0)
         }
         _ => check_plain(op, context),

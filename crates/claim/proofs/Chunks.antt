@@ -38,11 +38,11 @@ set_down_append at (c ∷ cs) ys = rw (set_down_append (at + size_of (content c)
 abbrev pub AllWide : List Chunk → Type 0
 AllWide = AllByRecursion (λ c. Wide (content c))
 
-all_wide_first : (xs ys : List Chunk) → AllWide (xs ++ ys) → AllWide xs
+pub all_wide_first : (xs ys : List Chunk) → AllWide (xs ++ ys) → AllWide xs
 all_wide_first [] ys a = tt
 all_wide_first (c ∷ cs) ys a = (a.0, all_wide_first cs ys a.1)
 
-all_wide_second : (xs ys : List Chunk) → AllWide (xs ++ ys) → AllWide ys
+pub all_wide_second : (xs ys : List Chunk) → AllWide (xs ++ ys) → AllWide ys
 all_wide_second [] ys a = a
 all_wide_second (c ∷ cs) ys a = all_wide_second cs ys a.1
 

@@ -2,11 +2,13 @@
 
 ghost use Rattle.std.specs.Prelude.{◌≡◌, ℕ, ◌+◌, ◌<◌, ◌≤◌, [], ◌∷◌, ◌++◌, length};
 
-/// Up to `N` bytes.
+/// Up to `N` bytes: a table, of which the first `len` are in use.
 #[derive(Clone, Copy)]
 pub struct Bytes<const N: usize> {
-    bytes: [u8; N],
-    len: usize,
+    /// The table.
+    pub bytes: [u8; N],
+    /// How many are in use.
+    pub len: usize,
     ghost within: { len ≤ N },
 }
 

@@ -13,7 +13,7 @@ ghost use Rattle.writer.specs.Meaning.{Keeps};
 
 use common::encoding::Encoding;
 use common::error::Error;
-use common::fixup::{DebugInfoFixup, Fixups};
+use common::fixup::DebugInfoFixup;
 use op::operation::Operation;
 use operation::encode::{encode_nested, encode_operation};
 use unit::Context;
@@ -29,15 +29,19 @@ pub fn put<W: Writer>(w: &mut W, bytes: &[u8]) -> Result<(), Error>
     w.write(bytes)
 }
 
-/// Adds a row, if there is one, behind those in use.
-pub fn put_row(fixups: &mut Fixups, row: Option<DebugInfoFixup>)
-    requires { fixups.old.count + length (option_to_list row) ≤ 512 }
-    ensures count { fixups.new.count ≡ fixups.old.count + length (option_to_list row) }
-    ensures after { take fixups.new.count fixups.new.rows ≡ take fixups.old.count fixups.old.rows ++ option_to_list row }
+/// Adds a row, if there is one, behind those in use, and answers how many are in use then.
+pub fn put_row(rows: &mut [DebugInfoFixup], count: usize, row: Option<DebugInfoFixup>) -> usize
+    requires { count + length (option_to_list row) ≤ length rows.old }
+    ensures value { result ≡ count + length (option_to_list row) }
+    ensures after { take result rows.new ≡ take count rows.old ++ option_to_list row }
+    ensures long { length rows.new ≡ length rows.old }
 {
-    if let Some(row) = row {
-        fixups.rows[fixups.count] = row;
-        fixups.count += 1;
+    match row {
+        Some(row) => {
+            rows[count] = row;
+            count + 1
+        }
+        None => count,
     }
 }
 

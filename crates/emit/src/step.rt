@@ -5,9 +5,9 @@ ghost use Rattle.common.specs.declared.encoding.Encoding.{Encoding as UnitEncodi
 ghost use Rattle.dwarf.specs.Bytes.{bytes_of, size_of};
 ghost use Rattle.dwarf.specs.References.{references};
 ghost use Rattle.op.specs.declared.operation.Operation.TheVariants.{EntryValue as entry_value};
-ghost use Rattle.book.specs.Holds.{holds};
 ghost use Rattle.book_state.specs.State.{op_at, expression_at};
-ghost use Rattle.book_state.specs.Whole.{heaviest};
+ghost use Rattle.book_state.specs.Whole.{Whole, heaviest};
+ghost use Rattle.book_tables.specs.View.{view};
 ghost use Rattle.positions.specs.Ends.{Own, Filled};
 ghost use Rattle.rules.specs.Scope.{Scope};
 ghost use Rattle.unit.specs.Offsets.{scope_of};
@@ -18,28 +18,35 @@ ghost use Rattle.emit.specs.Walk.{grown, starts_of, leads_to, check_at, tokens_a
 use crate::cursor::{Cursor, Open};
 use crate::data::data_of;
 use crate::put::{put_nested, put_operation, put_row};
-use book::book::Book;
+use book_tables::tables::Tables;
 use book_tree::reading::{expression, operations};
 use common::error::Error;
-use common::fixup::Fixups;
+use common::fixup::DebugInfoFixup;
 use op::operation::Operation;
 use operation::reference::reference_of;
 use positions::branch::displacement;
-use positions::{Ends, end_of};
+use positions::end_of;
 use unit::Context;
 use writer::writer::Writer;
 
 /// The displacement of an operation that is a branch, and 0 for any other.
-fn displacement_of(book: &Book<'_>, at: Open, op: Operation, ends: &Ends<'_>) -> Result<i16, Error>
-    requires there { at.number < (holds book.now).sealed_count }
-    requires more { at.next < (expression_at (holds book.now) at.number).count }
-    requires here { op ≡ op_at (holds book.now) ((expression_at (holds book.now) at.number).start + at.next) }
-    requires small { (i : ℕ) → i < (expression_at (holds book.now) at.number).count → slice_index ends.now.places.now ((expression_at (holds book.now) at.number).start + i) ≤ heaviest }
-    ensures { (e : UnitEncoding) (s : Scope) → Own e s (holds book.now) ends.now.places.now at.number → leads_to e s (holds book.now) at result }
+fn displacement_of(
+    tables: &Tables<'_>,
+    at: Open,
+    op: Operation,
+    ends: &[usize],
+) -> Result<i16, Error>
+    requires whole { Whole (view tables.now) }
+    requires there { at.number < tables.now.sealed_count }
+    requires more { at.next < (expression_at (view tables.now) at.number).count }
+    requires here { op ≡ op_at (view tables.now) ((expression_at (view tables.now) at.number).start + at.next) }
+    requires wide { 4096 ≤ length ends.now }
+    requires small { (i : ℕ) → i < (expression_at (view tables.now) at.number).count → slice_index ends.now ((expression_at (view tables.now) at.number).start + i) ≤ heaviest }
+    ensures { (e : UnitEncoding) (s : Scope) → Own e s (view tables.now) ends.now at.number → leads_to e s (view tables.now) at result }
 {
     match op {
         Operation::Skip(target) | Operation::Branch(target) => {
-            displacement(book, at.number, at.next, target, ends)
+            displacement(tables, at.number, at.next, target, ends)
         }
         _ => Ok(0),
     }
@@ -48,58 +55,65 @@ fn displacement_of(book: &Book<'_>, at: Open, op: Operation, ends: &Ends<'_>) ->
 /// Writes an operation that nests nothing, and notes its reference.
 fn write_plain<W: Writer>(
     w: &mut W,
-    book: &Book<'_>,
+    tables: &Tables<'_>,
     at: Open,
     op: Operation,
     context: Context<'_>,
-    ends: &Ends<'_>,
-    fixups: &mut Fixups,
+    ends: &[usize],
+    rows: &mut [DebugInfoFixup],
+    count: &mut usize,
 ) -> Result<(), Error>
-    requires there { at.number < (holds book.now).sealed_count }
-    requires more { at.next < (expression_at (holds book.now) at.number).count }
-    requires here { op ≡ op_at (holds book.now) ((expression_at (holds book.now) at.number).start + at.next) }
+    requires whole { Whole (view tables.now) }
+    requires there { at.number < tables.now.sealed_count }
+    requires more { at.next < (expression_at (view tables.now) at.number).count }
+    requires here { op ≡ op_at (view tables.now) ((expression_at (view tables.now) at.number).start + at.next) }
     requires plain { (m : ℕ) → op ≢ entry_value m }
-    requires filled { Filled context.encoding (scope_of context.unit_offsets) (holds book.now) ends.now.places.now at.number }
-    requires checked { check_at context.encoding (scope_of context.unit_offsets) (holds book.now) at ≡ Ok tt }
-    requires room { Room (W.Writer.means w.old) (size_of (tokens_at context.encoding (scope_of context.unit_offsets) (holds book.now) at)) }
-    requires free { fixups.old.count + length (references (length (W.Writer.means w.old).content) (tokens_at context.encoding (scope_of context.unit_offsets) (holds book.now) at)) ≤ 512 }
+    requires wide { 4096 ≤ length ends.now }
+    requires filled { Filled context.encoding (scope_of context.unit_offsets) (view tables.now) ends.now at.number }
+    requires checked { check_at context.encoding (scope_of context.unit_offsets) (view tables.now) at ≡ Ok tt }
+    requires room { Room (W.Writer.means w.old) (size_of (tokens_at context.encoding (scope_of context.unit_offsets) (view tables.now) at)) }
+    requires free { count.old + length (references (length (W.Writer.means w.old).content) (tokens_at context.encoding (scope_of context.unit_offsets) (view tables.now) at)) ≤ length rows.old }
     ensures answer { result ≡ Ok tt }
-    ensures after { W.Writer.means w.new ≡ grown (W.Writer.means w.old) (bytes_of (W.Writer.means w.old).big (tokens_at context.entry.encoding (scope_of context.entry.unit_offsets) (holds book.now) at)) }
-    ensures rows { take fixups.new.count fixups.new.rows ≡ take fixups.old.count fixups.old.rows ++ references (length (W.Writer.means w.old).content) (tokens_at context.entry.encoding (scope_of context.entry.unit_offsets) (holds book.now) at) }
-    ensures count { fixups.new.count ≡ fixups.old.count + length (references (length (W.Writer.means w.old).content) (tokens_at context.entry.encoding (scope_of context.entry.unit_offsets) (holds book.now) at)) }
+    ensures after { W.Writer.means w.new ≡ grown (W.Writer.means w.old) (bytes_of (W.Writer.means w.old).big (tokens_at context.entry.encoding (scope_of context.entry.unit_offsets) (view tables.now) at)) }
+    ensures rows { take count.new rows.new ≡ take count.old rows.old ++ references (length (W.Writer.means w.old).content) (tokens_at context.entry.encoding (scope_of context.entry.unit_offsets) (view tables.now) at) }
+    ensures count { count.new ≡ count.old + length (references (length (W.Writer.means w.old).content) (tokens_at context.entry.encoding (scope_of context.entry.unit_offsets) (view tables.now) at)) }
+    ensures long { length rows.new ≡ length rows.old }
     ensures memory { Keeps (W.Writer.memory w.old) (W.Writer.memory w.new) (length (W.Writer.means w.new).content) }
 {
-    let displacement = displacement_of(book, at, op, ends)?;
+    let displacement = displacement_of(tables, at, op, ends)?;
     let offset = w.len();
-    put_operation(w, op, data_of(book, op), context, displacement)?;
-    put_row(fixups, reference_of(op, context.encoding, offset));
+    put_operation(w, op, data_of(tables, op), context, displacement)?;
+    *count = put_row(rows, *count, reference_of(op, context.encoding, offset));
     Ok(())
 }
 
 /// Writes the next operation. Of an entry value its code and length are written, and the expression that it nests comes next.
 pub(crate) fn step<W: Writer>(
     w: &mut W,
-    book: &Book<'_>,
+    tables: &Tables<'_>,
     cursor: &mut Cursor,
     context: Context<'_>,
-    ends: &Ends<'_>,
-    fixups: &mut Fixups,
+    ends: &[usize],
+    rows: &mut [DebugInfoFixup],
+    count: &mut usize,
 ) -> Result<(), Error>
-    requires walking { Walking context.encoding (scope_of context.unit_offsets) (holds book.now) ends.now.places.now (W.Writer.means w.old) fixups.old.rows fixups.old.count cursor.old }
-    requires more { cursor.old.top.next < (expression_at (holds book.now) cursor.old.top.number).count }
+    requires whole { Whole (view tables.now) }
+    requires wide { 4096 ≤ length ends.now }
+    requires walking { Walking context.encoding (scope_of context.unit_offsets) (view tables.now) ends.now (W.Writer.means w.old) rows.old count.old cursor.old }
+    requires more { cursor.old.top.next < (expression_at (view tables.now) cursor.old.top.number).count }
     ensures answer { result ≡ Ok tt }
-    ensures moved { Moved context.entry.encoding (scope_of context.entry.unit_offsets) (holds book.now) ends.now.places.now (W.Writer.means w.old) (W.Writer.means w.new) fixups.old.rows fixups.new.rows fixups.old.count fixups.new.count cursor.old cursor.new }
+    ensures moved { Moved context.entry.encoding (scope_of context.entry.unit_offsets) (view tables.now) ends.now (W.Writer.means w.old) (W.Writer.means w.new) rows.old rows.new count.old count.new cursor.old cursor.new }
     ensures memory { Keeps (W.Writer.memory w.old) (W.Writer.memory w.new) (length (W.Writer.means w.new).content) }
 {
     let top = cursor.top;
-    match operations(book, top.number)[top.next] {
+    match operations(tables, top.number)[top.next] {
         Operation::EntryValue(number) => {
-            let size = end_of(book, number, expression(book, number).count, ends);
+            let size = end_of(tables, number, expression(tables, number).count, ends);
             put_nested(w, context.encoding, size as u64)?;
             cursor.enter(number);
         }
         op => {
-            write_plain(w, book, top, op, context, ends, fixups)?;
+            write_plain(w, tables, top, op, context, ends, rows, count)?;
             cursor.top.next = top.next + 1;
         }
     }

@@ -11,37 +11,44 @@ use crate::walk::emit;
 use book::book::Book;
 use checking::check_expression;
 use common::error::Error;
-use common::fixup::Fixups;
+use common::fixup::DebugInfoFixup;
 use positions::{Ends, measure_expression};
 use unit::Context;
 use writer::writer::Writer;
 
 /// Writes an expression of a book, and answers how many bytes it takes. First all sizes are taken, then every operation is checked:
-/// nothing is written unless all of it will be. `ends` is room for where operations end; references that are set down are added to `fixups`.
+/// nothing is written unless all of it will be. `ends` is room for where operations end; behind the first `count` of `rows` come the
+/// references that are set down.
 pub fn write_expression<W: Writer>(
     w: &mut W,
     book: &Book<'_>,
     number: usize,
     context: Context<'_>,
     ends: &mut [usize],
-    fixups: &mut Fixups,
+    rows: &mut [DebugInfoFixup],
+    count: &mut usize,
 ) -> Result<usize, Error>
-    requires { 4096 ≤ length ends.old }
-    ensures wrote { Wrote (written (W.Writer.means w.old) fixups.old.count context.entry.encoding (scope_of context.entry.unit_offsets) (tree_at (holds book.now) number)) (W.Writer.means w.old) (W.Writer.means w.new) (take fixups.old.count fixups.old.rows) (take fixups.new.count fixups.new.rows) result }
+    requires wide { 4096 ≤ length ends.old }
+    requires table { length rows.old ≡ 512 }
+    requires used { count.old ≤ 512 }
+    ensures wrote { Wrote (written (W.Writer.means w.old) count.old context.entry.encoding (scope_of context.entry.unit_offsets) (tree_at (holds book.now) number)) (W.Writer.means w.old) (W.Writer.means w.new) (take count.old rows.old) (take count.new rows.new) result }
+    ensures used { count.new ≤ 512 }
     ensures memory { Keeps (W.Writer.memory w.old) (W.Writer.memory w.new) (length (W.Writer.means w.new).content) }
 {
-    if number >= book.tables().sealed_count {
+    let tables = book.tables();
+    if number >= tables.sealed_count {
         return Err(Error::NoExpression);
     }
     let mut ends = Ends { places: ends };
-    let size = measure_expression(book, number, context, &mut ends)?;
-    let references = check_expression(book, number, context, &ends)?;
-    if fixups.count + references > 512 {
+    let size = measure_expression(tables, number, context, &mut ends)?;
+    let Ends { places } = ends;
+    let references = check_expression(tables, number, context, places)?;
+    if *count + references > 512 {
         return Err(Error::TooManyReferences);
     }
     if size > w.room() {
         return Err(Error::NoRoom);
     }
-    emit(w, book, number, context, &ends, fixups)?;
+    emit(w, tables, number, context, places, rows, count)?;
     Ok(size)
 }

@@ -16,8 +16,9 @@ use unit::Context;
 pub fn size_of(book: &Book<'_>, number: usize, context: Context<'_>) -> Result<usize, Error>
     ensures { result ≡ size_at context.entry.encoding (scope_of context.entry.unit_offsets) (tree_at (holds book.now) number) }
 {
-    if number >= book.tables().sealed_count {
+    let tables = book.tables();
+    if number >= tables.sealed_count {
         return Err(Error::NoExpression);
     }
-    expression_size(book, number, context)
+    expression_size(tables, number, context)
 }

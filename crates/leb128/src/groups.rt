@@ -1,8 +1,8 @@
 //! Numbers as groups of seven bits.
 
 ghost use Rattle.std.specs.Prelude.{◌≡◌, ℕ, suc, ◌+◌, ◌/◌, ◌%◌, ◌<◌, Bool, true, false, List, [], ◌∷◌, nat_lt};
-ghost use Rattle.dwarf.specs.Leb.{groups, sgroups, low_seven, shr, is_small};
-ghost use Rattle.leb128.specs.Groups.{groups_none, last_group, next_group, sgroups_none, last_sgroup, next_sgroup};
+ghost use Rattle.dwarf.specs.Leb.{groups, sgroups, low_seven, shr, is_small, magnitude};
+ghost use Rattle.leb128.specs.Groups.{groups_none, last_group, next_group, room, one_group, fewer_groups, sgroups_none, last_sgroup, next_sgroup, signed_room, one_sgroup, fewer_sgroups};
 
 /// A number that is cut into groups of seven bits, the lowest first.
 pub(crate) trait Groups: Copy {
@@ -17,6 +17,9 @@ pub(crate) trait Groups: Copy {
 
     /// Whether one group holds the number.
     ghost single: { Self → Bool };
+
+    /// That at most k groups follow the first.
+    ghost fits: { ℕ → Self → Type 0 };
 
     /// The lowest group.
     fn low(self) -> u8
@@ -39,6 +42,12 @@ pub(crate) trait Groups: Copy {
 
     /// Any other is followed by the groups of what is above it.
     ghost goes_on: { (k : ℕ) (n : Self) → single n ≡ false → cut (suc k) n ≡ (lowest n + 128) ∷ cut k (above n) };
+
+    /// Where none follows, one holds the number.
+    ghost last: { (n : Self) → fits 0 n → single n ≡ true };
+
+    /// Where one does not hold it, one fewer follows what is above the lowest.
+    ghost fewer: { (k : ℕ) (n : Self) → fits (suc k) n → single n ≡ false → fits k (above n) };
 }
 
 impl Groups for u64 {
@@ -50,11 +59,17 @@ impl Groups for u64 {
 
     ghost single = { λ n. nat_lt n 128 };
 
+    ghost fits = { λ k n. n < room k };
+
     ghost stops = { groups_none };
 
     ghost ends = { last_group };
 
     ghost goes_on = { next_group };
+
+    ghost last = { one_group };
+
+    ghost fewer = { fewer_groups };
 
     fn low(self) -> u8 {
         (self & 0x7f) as u8
@@ -78,11 +93,17 @@ impl Groups for i64 {
 
     ghost single = { is_small };
 
+    ghost fits = { λ k z. magnitude z < signed_room k };
+
     ghost stops = { sgroups_none };
 
     ghost ends = { last_sgroup };
 
     ghost goes_on = { next_sgroup };
+
+    ghost last = { one_sgroup };
+
+    ghost fewer = { fewer_sgroups };
 
     fn low(self) -> u8 {
         (self.cast_unsigned() & 0x7f) as u8

@@ -15,9 +15,6 @@ mod groups;
 /// Set on each byte of a number but the last.
 const CONTINUATION_BIT: u8 = 1 << 7;
 
-/// The most bytes before the last.
-const MOST_CONTINUED: usize = 9;
-
 /// An encoded LEB128 value, signed or unsigned.
 #[derive(Clone, Copy)]
 pub struct Leb128(Bytes<10>);
@@ -39,18 +36,21 @@ impl Leb128 {
 
     /// Encodes a number, group by group.
     fn encode<N: Groups>(mut val: N) -> Self
+        requires { N.Groups.fits 9 val }
         ensures { held result.0 ≡ N.Groups.cut 9 val }
     {
-        let mut bytes = Bytes::new();
-        for _ in 0..MOST_CONTINUED {
-            if val.is_last() {
-                break;
-            }
-            bytes.push(val.low() | CONTINUATION_BIT);
+        let mut bytes = [0; 10];
+        let mut len = 0;
+        while !val.is_last() {
+            bytes[len] = val.low() | CONTINUATION_BIT;
+            len += 1;
             val = val.rest();
         }
-        bytes.push(val.low());
-        Leb128(bytes)
+        bytes[len] = val.low();
+        Leb128(Bytes {
+            bytes,
+            len: len + 1,
+        })
     }
 
     /// Encodes an unsigned number.
@@ -74,13 +74,11 @@ impl Leb128 {
 
 /// How many groups a number has.
 fn count<N: Groups>(mut val: N) -> usize
+    requires { N.Groups.fits 9 val }
     ensures { result ≡ length (N.Groups.cut 9 val) }
 {
     let mut size = 1;
-    for _ in 0..MOST_CONTINUED {
-        if val.is_last() {
-            break;
-        }
+    while !val.is_last() {
         val = val.rest();
         size += 1;
     }

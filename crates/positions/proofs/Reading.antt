@@ -16,12 +16,12 @@ use Rattle.positions.specs.Ends.{Own}
 use Rattle.positions.proofs.Starts.{starts_first, starts-length, next_start}
 
 module _ (e : Encoding) (s : Scope) (b : State) (w : Whole b) (k : ℕ) (there : k < b.sealed_count) where
-  tree_starts : length (starts e s 0 (tree_in b k)) ≡ (expression_at b k).count + 1
+  pub tree_starts : length (starts e s 0 (tree_in b k)) ≡ (expression_at b k).count + 1
   tree_starts =
       ap (λ t. length (starts e s 0 t)) (tree_is b w k there) ∙ (starts-length e s b 0 (operations_of b k) ∙ ap (λ n. n + 1) (length_operations b w k there))
 
   -- where an operation ends, the next begins
-  end_read : (table : List ℕ) → Own e s b table k → (i : ℕ) → i < (expression_at b k).count →
+  pub end_read : (table : List ℕ) → Own e s b table k → (i : ℕ) → i < (expression_at b k).count →
       get_or table ((expression_at b k).start + i) 0 ≡ get_or (starts e s 0 (tree_in b k)) (i + 1) 0
   end_read table own i l =
       let v : (expression_at b k).start + i - (expression_at b k).start ≡ i = omega arith in

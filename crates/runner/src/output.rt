@@ -39,15 +39,13 @@ pub fn print_fault(out: &mut String, line: usize, fault: Fault) -> Result<(), Al
 
 /// Prints a sink's bytes, 16 to a line.
 pub fn print_bytes<W: Writer + Shown>(out: &mut String, sink: &W) -> Result<(), AllocError> {
-    let heap = *out.allocator();
-    let bytes: Vec<u8> = (0..sink.len())
-        .filter_map(|offset| sink.byte_at(offset))
-        .collect(heap)?;
-    for (row, line) in bytes.chunks(ROW).enumerate() {
-        let offset = row * ROW;
+    let len = sink.len();
+    for offset in (0..len).step_by(ROW) {
         write!(out, "{offset:08x}:")?;
-        for byte in line {
-            write!(out, " {byte:02x}")?;
+        for at in (offset..len).take(ROW) {
+            if let Some(byte) = sink.byte_at(at) {
+                write!(out, " {byte:02x}")?;
+            }
         }
         writeln!(out)?;
     }

@@ -1,6 +1,6 @@
 //! A run of a script.
 
-ghost use Rattle.std.specs.Prelude.{◌≡◌, ℕ, ◌<◌, ◌≤◌, IfOk};
+ghost use Rattle.std.specs.Prelude.{◌≡◌, ℕ, ◌<◌, ◌≤◌, IfOk, MatchOption};
 ghost use Rattle.words.specs.Bytes.{denoted};
 ghost use Rattle.script.specs.Readers.{left};
 ghost use Rattle.runner.specs.Answers.{Written};
@@ -82,13 +82,22 @@ impl Setup {
         }
     }
 
-    /// What the first of some lines make.
-    fn of_lines(lines: Reader<'_>) -> Setup {
+    /// What is made with the next line, which is read if it makes the sink or the book.
+    fn with_next(self, lines: &mut Reader<'_>) -> Option<Setup>
+        ensures { MatchOption result (left lines.new ≤ left lines.old) (λ _. left lines.new < left lines.old) }
+    {
+        let mut ahead = *lines;
+        let next = self.with_line(ahead.next()?)?;
+        *lines = ahead;
+        Some(next)
+    }
+
+    /// What the first of some lines make, which are read.
+    fn of_lines(lines: &mut Reader<'_>) -> Setup
+        ensures { left lines.new ≤ left lines.old }
+    {
         let mut setup = Setup::default();
-        for item in lines {
-            let Some(next) = setup.with_line(item) else {
-                break;
-            };
+        while let Some(next) = setup.with_next(lines) {
             setup = next;
         }
         setup
@@ -105,19 +114,21 @@ struct Machine<'a, W> {
 }
 
 impl<'a, W: Writer + Shown> Machine<'a, W> {
-    /// A machine that no line was carried out on.
-    fn new(heap: Global, sink: W, out: &'a mut String) -> Machine<'a, W> {
+    /// A machine on which no line was carried out, behind the lines that made its sink.
+    fn new(heap: Global, sink: W, stage: Stage, out: &'a mut String) -> Machine<'a, W> {
         Machine {
             heap,
             sink,
-            stage: Stage::start(),
+            stage,
             out,
         }
     }
 
     /// Writes bytes to the sink.
     fn write(&mut self, bytes: Hex<'_>, done: Answer) -> Result<Result<Answer, Error>, AllocError>
-        ensures { IfOk result (λ a. Written done (denoted bytes.entry) (W.Writer.means self.old.sink) a (W.Writer.means self.new.sink)) }
+        ensures written { IfOk result (λ a. Written done (denoted bytes.entry) (W.Writer.means self.old.sink) a (W.Writer.means self.new.sink)) }
+        ensures stage { self.new.stage ≡ self.old.stage }
+        ensures text { self.new.out ≡ self.old.out }
     {
         let bytes = bytes.decode(self.heap)?;
         Ok(self.sink.write(bytes.as_slice()).map(|()| done))
@@ -171,16 +182,17 @@ fn run_part(
 ) -> Result<Option<Ending>, AllocError>
     ensures { IfOk result (λ e. Ends e (left lines.old) (left lines.new)) }
 {
-    match Setup::of_lines(*lines).sink {
+    let setup = Setup::of_lines(lines);
+    match setup.sink {
         SinkKind::Bytes { capacity, endian } => {
             let mut table = vec![in heap; 0u8; capacity.min(MOST_BYTES) as usize]?;
             let sink = BufferSink::new(&mut table, endian);
-            Machine::new(heap, sink, out).run(lines)
+            Machine::new(heap, sink, setup.stage, out).run(lines)
         }
         SinkKind::Words { count } => {
             let mut table = vec![in heap; 0u32; count.min(MOST_WORDS) as usize]?;
             let sink = WordSink::new(&mut table);
-            Machine::new(heap, sink, out).run(lines)
+            Machine::new(heap, sink, setup.stage, out).run(lines)
         }
     }
 }

@@ -2,39 +2,40 @@
 use Rattle.std.proofs.Common.{◌≡◌, ℕ, zero, suc, ◌+◌, ◌<◌, ◌≤◌, min, List, [], ◌∷◌, ◌++◌, length, get_or, take, set, Result, sym, refl, ap, ◌∙◌, subst, add-one, arith}
 use Rattle.common.specs.declared.error.Error.{Error}
 use Rattle.claim.specs.Section.{State, New}
-use Rattle.claim.specs.Calls.{event, after, state, history}
+use Rattle.claim.specs.Calls.{Call, event, after, state, history}
 use Rattle.claim.specs.History.{fills}
 use Rattle.claim.specs.Claim.{Made, made, calls, Runs, Kept, Stepped}
 use Rattle.claim.proofs.Carrying.{claim, steady}
-use Rattle.section.specs.declared.calls.Call.{Call as Given}
 use Rattle.section.specs.declared.calls.Answer.{Answer as Got}
-use Rattle.section.specs.Made.{call_of, answer_of, all_made, Onward, Ran}
+use Rattle.section.specs.Made.{answer_of, all_made, Onward, Ran}
 
-one_more : (cs : List Given) (rs : List (Result Got Error)) (i : ℕ) (r : Result Got Error) (d : Given) → i < length cs → i < length rs
-    → all_made (take (suc i) cs) (take (suc i) (set rs i r)) ≡ made (call_of (get_or cs i d)) (answer_of r) ∷ all_made (take i cs) (take i rs)
-one_more [] rs i r d h l = absurd (omega arith)
-one_more (c ∷ cs) [] i r d h l = absurd (omega arith)
-one_more (c ∷ cs) (a ∷ rs) zero r d h l = refl
-one_more (c ∷ cs) (a ∷ rs) (suc i) r d h l =
-    ap (λ (z : List Made). z ++ (made (call_of c) (answer_of a) ∷ [])) (one_more cs rs i r d (omega arith) (omega arith))
+one_more : {C : Type 0} (say : C → Call) (cs : List C) (rs : List (Result Got Error)) (i : ℕ) (r : Result Got Error) (d : C) → i < length cs → i < length rs
+    → all_made say (take (suc i) cs) (take (suc i) (set rs i r)) ≡ made (say (get_or cs i d)) (answer_of r) ∷ all_made say (take i cs) (take i rs)
+one_more say [] rs i r d h l = absurd (omega arith)
+one_more say (c ∷ cs) [] i r d h l = absurd (omega arith)
+one_more say (c ∷ cs) (a ∷ rs) zero r d h l = refl
+one_more say (c ∷ cs) (a ∷ rs) (suc i) r d h l =
+    ap (λ (z : List Made). z ++ (made (say c) (answer_of a) ∷ [])) (one_more say cs rs i r d (omega arith) (omega arith))
 
 -- one call more, with its answer
-pub one_on : (cs : List Given) (rs : List (Result Got Error)) (i : ℕ) (r : Result Got Error) (d : Given) (m s s' : State) → i < length cs → i < length rs
-    → d ≡ get_or cs i d → Runs m (all_made (take i cs) (take i rs)) s → Stepped s (call_of d) (answer_of r) s'
-    → Runs m (all_made (take (i + 1) cs) (take (i + 1) (set rs i r))) s'
+pub one_on : {C : Type 0} (say : C → Call) (cs : List C) (rs : List (Result Got Error)) (i : ℕ) (r : Result Got Error) (d : C) (k : Call) (m s s' : State)
+    → i < length cs → i < length rs → k ≡ say (get_or cs i d)
+    → Runs m (all_made say (take i cs) (take i rs)) s → Stepped s k (answer_of r) s'
+    → Runs m (all_made say (take (i + 1) cs) (take (i + 1) (set rs i r))) s'
 unfolding Runs
-one_on cs rs i r d m s s' h l is runs step =
-    let e : all_made (take (i + 1) cs) (take (i + 1) (set rs i r)) ≡ made (call_of d) (answer_of r) ∷ all_made (take i cs) (take i rs) =
-    rw add-one (one_more cs rs i r d h l) ∙ ap (λ (z : Given). made (call_of z) (answer_of r) ∷ all_made (take i cs) (take i rs)) (sym is) in
+one_on say cs rs i r d k m s s' h l is runs step =
+    let e : all_made say (take (i + 1) cs) (take (i + 1) (set rs i r)) ≡ made k (answer_of r) ∷ all_made say (take i cs) (take i rs) =
+    rw add-one (one_more say cs rs i r d h l) ∙ ap (λ (z : Call). made z (answer_of r) ∷ all_made say (take i cs) (take i rs)) (sym is) in
     subst (λ (z : List Made). Runs m z s') (sym e) (s, runs, step.answered, step.left)
 
-all_there : (cs : List Given) (rs : List (Result Got Error)) (n : ℕ) → min (length cs) (length rs) ≤ n → all_made (take n cs) (take n rs) ≡ all_made cs rs
-all_there [] rs zero h = refl
-all_there [] rs (suc n) h = refl
-all_there (c ∷ cs) [] zero h = refl
-all_there (c ∷ cs) [] (suc n) h = refl
-all_there (c ∷ cs) (a ∷ rs) zero h = absurd (omega arith)
-all_there (c ∷ cs) (a ∷ rs) (suc n) h = ap (λ (z : List Made). z ++ (made (call_of c) (answer_of a) ∷ [])) (all_there cs rs n (omega arith))
+all_there : {C : Type 0} (say : C → Call) (cs : List C) (rs : List (Result Got Error)) (n : ℕ) → min (length cs) (length rs) ≤ n
+    → all_made say (take n cs) (take n rs) ≡ all_made say cs rs
+all_there say [] rs zero h = refl
+all_there say [] rs (suc n) h = refl
+all_there say (c ∷ cs) [] zero h = refl
+all_there say (c ∷ cs) [] (suc n) h = refl
+all_there say (c ∷ cs) (a ∷ rs) zero h = absurd (omega arith)
+all_there say (c ∷ cs) (a ∷ rs) (suc n) h = ap (λ (z : List Made). z ++ (made (say c) (answer_of a) ∷ [])) (all_there say cs rs n (omega arith))
 
 -- a run behind a run
 joined : (s₀ : State) (ds : List Made) (m : State) (es : List Made) (s : State) → Runs s₀ ds m → Runs m es s → Runs s₀ (es ++ ds) s
@@ -57,8 +58,8 @@ carried m es s r s₀ ds n q =
     }
 
 -- all calls
-pub all_on : (cs : List Given) (rs : List (Result Got Error)) (n : ℕ) (m s : State) → min (length cs) (length rs) ≤ n
-    → Runs m (all_made (take n cs) (take n rs)) s → Ran m cs rs s
-all_on cs rs n m s h runs =
-    let all : Runs m (all_made cs rs) s = subst (λ (z : List Made). Runs m z s) (all_there cs rs n h) runs in
-    record { followed = all; carried = carried m (all_made cs rs) s all }
+pub all_on : {C : Type 0} (say : C → Call) (cs : List C) (rs : List (Result Got Error)) (n : ℕ) (m s : State) → min (length cs) (length rs) ≤ n
+    → Runs m (all_made say (take n cs) (take n rs)) s → Ran m (all_made say cs rs) s
+all_on say cs rs n m s h runs =
+    let all : Runs m (all_made say cs rs) s = subst (λ (z : List Made). Runs m z s) (all_there say cs rs n h) runs in
+    record { followed = all; carried = carried m (all_made say cs rs) s all }

@@ -29,6 +29,31 @@ pub enum Call<'b> {
     Pending(usize),
 }
 
+/// A call of a section that names no book. An expression goes by its number in the book that the call is made with.
+#[derive(Clone, Copy)]
+pub enum NumberedCall<'b> {
+    /// `begin_unit`
+    BeginUnit(Encoding),
+    /// `append`
+    Append(&'b [u8]),
+    /// `place`
+    Place(usize),
+    /// `size`
+    Size(usize),
+    /// `size_frame`
+    SizeFrame(usize, Encoding),
+    /// `write`
+    Write(usize),
+    /// `write_frame`
+    WriteFrame(usize, Encoding),
+    /// `fill`
+    Fill(usize),
+    /// `finish`
+    Finish,
+    /// `pending`
+    Pending(usize),
+}
+
 /// What a call answers that is not refused.
 #[derive(Clone, Copy)]
 pub enum Answer {

@@ -104,13 +104,15 @@ impl<W: Writer> Section<W> {
     {
         let tables = &mut self.tables;
         let last = tables.units.last()?;
+        let pending = &mut tables.pending;
         write_expression(
             &mut self.sink,
             book,
             number,
             Context::unit(last),
             &mut self.ends,
-            &mut tables.pending,
+            &mut pending.rows,
+            &mut pending.count,
         )
     }
 
@@ -124,13 +126,15 @@ impl<W: Writer> Section<W> {
         ensures step { Steps W.Writer.means self.old (frame_call (tree_at (holds book.now) number) encoding) (counted result) self.new }
         ensures memory { KeepsMemory W.Writer.means W.Writer.memory self.old self.new }
     {
+        let pending = &mut self.tables.pending;
         write_expression(
             &mut self.sink,
             book,
             number,
             Context::frame(encoding),
             &mut self.ends,
-            &mut self.tables.pending,
+            &mut pending.rows,
+            &mut pending.count,
         )
     }
 

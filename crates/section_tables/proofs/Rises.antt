@@ -24,7 +24,7 @@ rise_from least (p ∷ ps) (suc k) d r l =
     let b = rise_from (p.offset + 1) ps k d (parts least p ps r).1 (omega arith) in omega arith
 
 -- of two references the one behind begins behind
-rise_less : (least : ℕ) (ps : List DebugInfoFixup) (i j : ℕ) (d : DebugInfoFixup) → rise least ps ≡ true → i < j → j < length ps
+pub rise_less : (least : ℕ) (ps : List DebugInfoFixup) (i j : ℕ) (d : DebugInfoFixup) → rise least ps ≡ true → i < j → j < length ps
     → (get_or ps i d).offset < (get_or ps j d).offset
 rise_less least [] i j d r m l = absurd (omega arith)
 rise_less least (p ∷ ps) i zero d r m l = absurd (omega arith)
@@ -97,10 +97,10 @@ module _ (offset : ℕ) (ps : List DebugInfoFixup) (r : rise 0 ps ≡ true) wher
     before_not : (k : ℕ) → k < i → stands_at size offset (get_or ps k no_row) ≡ false
     before_not k l = let z = s.before k l in elsewhere size offset (get_or ps k no_row) (λ e. omega arith)
 
-    split_first : i < length ps → stands_at size offset (get_or ps i no_row) ≡ true → FirstAt size offset ps i
+    pub split_first : i < length ps → stands_at size offset (get_or ps i no_row) ≡ true → FirstAt size offset ps i
     split_first l e = first_at size offset ps i l before_not e
 
-    split_other : i < length ps → stands_at size offset (get_or ps i no_row) ≡ false → first_of (stands_at size offset) ps ≡ None
+    pub split_other : i < length ps → stands_at size offset (get_or ps i no_row) ≡ false → first_of (stands_at size offset) ps ≡ None
     split_other l e = none_first (stands_at size offset) ps (λ k m.
         elim (cases_lt k i) [
           | inl a ↦ before_not k a
@@ -110,7 +110,7 @@ module _ (offset : ℕ) (ps : List DebugInfoFixup) (r : rise 0 ps ≡ true) wher
           ]
         ])
 
-    split_none : length ps ≤ i → first_of (stands_at size offset) ps ≡ None
+    pub split_none : length ps ≤ i → first_of (stands_at size offset) ps ≡ None
     split_none l = none_first (stands_at size offset) ps (λ k m. before_not k (omega arith))
 
     -- so the reference at that place, where there is one, is the only one that can stand

@@ -3,14 +3,15 @@
 #![tactic(auto)]
 
 ghost use Rattle.std.specs.Prelude.{◌≡◌, ◌<◌, ◌≤◌, IfOk};
-ghost use Rattle.book.specs.Holds.{holds};
 ghost use Rattle.book_state.specs.Operations.{shape};
 ghost use Rattle.book_state.specs.State.{expression_at, weight_by};
+ghost use Rattle.book_state.specs.Whole.{Whole};
+ghost use Rattle.book_tables.specs.View.{view};
 ghost use Rattle.book_tree.specs.Store.{InBook, size_in, tree_in};
 ghost use Rattle.rules.specs.Sizes.{size_tree};
 ghost use Rattle.unit.specs.Offsets.{scope_of};
 
-use book::book::Book;
+use book_tables::tables::Tables;
 use book_tree::reading::operations;
 use common::error::Error;
 use leb128::{sleb128_size, uleb128_size};
@@ -19,24 +20,34 @@ use unit::{Context, pointer_size};
 
 /// The size of a sealed expression, nested ones included.
 #[cycle(expression_size_operation_size)]
-pub fn expression_size(book: &Book<'_>, number: usize, context: Context<'_>) -> Result<usize, Error>
-    requires { number < (holds book.now).sealed_count }
-    ensures value { result ≡ size_tree context.entry.encoding (scope_of context.entry.unit_offsets) (tree_in (holds book.now) number) }
-    ensures light { IfOk result (λ n. n ≤ (expression_at (holds book.now) number).weight) }
+pub fn expression_size(
+    tables: &Tables<'_>,
+    number: usize,
+    context: Context<'_>,
+) -> Result<usize, Error>
+    requires whole { Whole (view tables.now) }
+    requires there { number < tables.now.sealed_count }
+    ensures value { result ≡ size_tree context.entry.encoding (scope_of context.entry.unit_offsets) (tree_in (view tables.now) number) }
+    ensures light { IfOk result (λ n. n ≤ (expression_at (view tables.now) number).weight) }
 {
     let mut size = 0;
-    for op in operations(book, number) {
-        size += operation_size(book, *op, context)?;
+    for op in operations(tables, number) {
+        size += operation_size(tables, *op, context)?;
     }
     Ok(size)
 }
 
 /// The size of an operation, with the expression that it nests.
 #[cycle(expression_size_operation_size)]
-pub fn operation_size(book: &Book<'_>, op: Operation, context: Context<'_>) -> Result<usize, Error>
-    requires { InBook (holds book.now) (shape op) }
-    ensures value { result ≡ size_in context.entry.encoding (scope_of context.entry.unit_offsets) (holds book.now) op }
-    ensures light { IfOk result (λ n. n ≤ weight_by (holds book.now).expressions (shape op)) }
+pub fn operation_size(
+    tables: &Tables<'_>,
+    op: Operation,
+    context: Context<'_>,
+) -> Result<usize, Error>
+    requires whole { Whole (view tables.now) }
+    requires inside { InBook (view tables.now) (shape op) }
+    ensures value { result ≡ size_in context.entry.encoding (scope_of context.entry.unit_offsets) (view tables.now) op }
+    ensures light { IfOk result (λ n. n ≤ weight_by tables.now.expressions (shape op)) }
 {
     match op {
         Operation::Raw(data) => Ok(usize::from(data.len)),
@@ -77,7 +88,7 @@ pub fn operation_size(book: &Book<'_>, op: Operation, context: Context<'_>) -> R
             Ok(1 + uleb128_size(context.base_offset(base)?))
         }
         Operation::EntryValue(number) => {
-            let length = expression_size(book, number, context)?;
+            let length = expression_size(tables, number, context)?;
             Ok(1 + uleb128_size(length as u64) + length)
         }
         Operation::Register(register) if register.0 < 32 => Ok(1),

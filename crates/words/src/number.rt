@@ -67,6 +67,6 @@ pub fn signed(word: &[u8]) -> Option<i64>
 {
     match word.strip_prefix(b"-") {
         Some(digits) => i64::try_from(-i128::from(plain_number(digits)?)).ok(),
-        None => i64::try_from(plain_number(word)?).ok(),
+        None => Some(unsigned(word, (1 << 63) - 1)?.cast_signed()),
     }
 }

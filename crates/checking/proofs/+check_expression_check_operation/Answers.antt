@@ -1,7 +1,7 @@
 use Rattle.std.proofs.Common.{◌≡◌, ℕ, ◌+◌, ◌<◌, get_or, drop, Ok, Err, sym, ap, ◌∙◌, subst, arith, rules}
 use Rattle.std.proofs.lemmas.Result.{err_from_is_err_and}
 use Rattle.op.specs.declared.operation.Operation.{Operation}
-use Rattle.book.specs.Holds.{holds}
+use Rattle.book_tables.specs.View.{view}
 use Rattle.book_state.specs.declared.shape.Shape.TheVariants.{Nesting}
 use Rattle.book_state.specs.Operations.{shape}
 use Rattle.book_state.specs.State.{no_operation, expression_at, operations_of, depth_by, weight_of, weight_by}
@@ -23,7 +23,7 @@ use Rattle.checking.proofs.+check_expression_check_operation.Goals as goal
 
 pub check_expression-loop-index-init : goal.check_expression-loop-index-init
 check_expression-loop-index-init t c =
-    let b = holds c.args.book.now in let w = c.args.book.now.whole in let k = c.args.number in
+    let b = view c.args.tables.now in let w = c.requires.whole in let k = c.args.number in
     let e = c.args.context.encoding in let s = scope_of c.args.context.unit_offsets in
     let xs = c.operations-op-items.result.now in let are = c.operations-op-items.ensures.value in
     let hs = starts e s 0 (tree_in b k) in
@@ -37,14 +37,14 @@ check_expression-loop-index-init t c =
 
 pub check_expression-check_operation-requires : goal.check_expression-check_operation-requires
 check_expression-check_operation-requires t c =
-    let b = holds c.args.book.now in let w = c.args.book.now.whole in let k = c.args.number in let i = c.loop-index.index in
+    let b = view c.args.tables.now in let w = c.requires.whole in let k = c.args.number in let i = c.loop-index.index in
     let xs = c.operations-op-items.result.now in let are = c.operations-op-items.ensures.value in
     let d = item_depth b w k c.requires.there xs are i c.loop-index-test.true in
-    (search rules, (c.requires.there, (item_counted b w k c.requires.there xs are i c.loop-index-test.true, (item_at b w k c.requires.there xs are i c.loop-index-test.true, c.requires.filled))))
+    (search rules, (w, (c.requires.there, (item_counted b w k c.requires.there xs are i c.loop-index-test.true, (item_at b w k c.requires.there xs are i c.loop-index-test.true, (c.requires.wide, c.requires.filled))))))
 
 pub check_expression-returns-in_err-count-clause-value : goal.check_expression-returns-in_err-count-clause-value
 check_expression-returns-in_err-count-clause-value t c =
-    let b = holds c.args.book.now in let w = c.args.book.now.whole in let k = c.args.number in
+    let b = view c.args.tables.now in let w = c.requires.whole in let k = c.args.number in
     let e = c.args.context.encoding in let s = scope_of c.args.context.unit_offsets in
     let xs = c.operations-op-items.result.now in let i = c.loop-index.index in
     let hs = starts e s 0 (tree_in b k) in
@@ -54,7 +54,7 @@ check_expression-returns-in_err-count-clause-value t c =
 
 pub check_expression-overflow_add-count : goal.check_expression-overflow_add-count
 check_expression-overflow_add-count t c =
-    let b = holds c.args.book.now in let w = c.args.book.now.whole in let k = c.args.number in
+    let b = view c.args.tables.now in let w = c.requires.whole in let k = c.args.number in
     let xs = c.operations-op-items.result.now in let i = c.loop-index.index in
     let m = item_then b w k c.requires.there xs c.operations-op-items.ensures.value i c.loop-index-test.true in
     let n : weight_of b.expressions (drop i xs) ≡ weight_by b.expressions (shape (get_or xs i no_operation)) + weight_of b.expressions (drop (i + 1) xs) = ap (weight_of b.expressions) m in
@@ -64,7 +64,7 @@ check_expression-overflow_add-count t c =
 
 pub check_expression-loop-index-preserved : goal.check_expression-loop-index-preserved
 check_expression-loop-index-preserved t c =
-    let b = holds c.args.book.now in let w = c.args.book.now.whole in let k = c.args.number in
+    let b = view c.args.tables.now in let w = c.requires.whole in let k = c.args.number in
     let e = c.args.context.encoding in let s = scope_of c.args.context.unit_offsets in
     let xs = c.operations-op-items.result.now in let are = c.operations-op-items.ensures.value in let i = c.loop-index.index in
     let hs = starts e s 0 (tree_in b k) in
@@ -80,38 +80,38 @@ check_expression-loop-index-preserved t c =
 
 pub check_operation-check_expression-requires : goal.check_operation-check_expression-requires
 check_operation-check_expression-requires t c =
-    let b = holds c.args.book.now in let w = c.args.book.now.whole in let k = c.args.number in let i = c.args.index in
+    let b = view c.args.tables.now in let w = c.requires.whole in let k = c.args.number in let i = c.args.index in
     let m = c.in-EntryValue.inner in
     let q : shape c.args.op ≡ Nesting m = ap shape c.in-EntryValue.is in
     let d : depth_by b.expressions (shape c.args.op) ≡ (expression_at b m).depth + 1 = ap (depth_by b.expressions) q in
     let at = ap shape (sym c.requires.here) ∙ q in
     let h : m < b.sealed_count = subst (InBook b) at (inside_book b w k c.requires.there i c.requires.inside) in
-    (search rules, (h, filled_inner c.args.context.encoding (scope_of c.args.context.unit_offsets) b c.args.ends.now.places.now k c.requires.filled i m c.requires.inside at))
+    (search rules, (w, (h, (c.requires.wide, filled_inner c.args.context.encoding (scope_of c.args.context.unit_offsets) b c.args.ends.now k c.requires.filled i m c.requires.inside at))))
 
 pub check_operation-displacement-requires-clause-small : goal.check_operation-displacement-requires-clause-small
 check_operation-displacement-requires-clause-small t c =
-    let b = holds c.args.book.now in let k = c.args.number in
-    λ j l. (filled-own c.args.context.encoding (scope_of c.args.context.unit_offsets) b c.args.ends.now.places.now k c.requires.filled j l k c.requires.there (omega arith) (omega arith)).1
+    let b = view c.args.tables.now in let k = c.args.number in
+    λ j l. (filled-own c.args.context.encoding (scope_of c.args.context.unit_offsets) b c.args.ends.now k c.requires.filled j l k c.requires.there (omega arith) (omega arith)).1
 
 pub check_operation-returns-in_err-displacement-in-Skip-clause-value : goal.check_operation-returns-in_err-displacement-in-Skip-clause-value
 check_operation-returns-in_err-displacement-in-Skip-clause-value t c =
-    let b = holds c.args.book.now in let w = c.args.book.now.whole in let k = c.args.number in
+    let b = view c.args.tables.now in let w = c.requires.whole in let k = c.args.number in
     let e = c.args.context.encoding in let s = scope_of c.args.context.unit_offsets in
     let p = err_from_is_err_and c.from_residual.result c.from_residual.ensures.1 in
     rw (p.1, p.2)
     (branch-counted e s b w k c.args.index c.requires.there c.requires.inside c.args.op c.requires.here c.in-Skip.target c.in-Skip.is (Err c.in_err-displacement-in-Skip.field-0.0)
-    (c.in_err-displacement-in-Skip.ensures e s (filled-own e s b c.args.ends.now.places.now k c.requires.filled)))
+    (c.in_err-displacement-in-Skip.ensures e s (filled-own e s b c.args.ends.now k c.requires.filled)))
 
 pub check_operation-returns-in_ok-displacement-in-Skip-clause-value : goal.check_operation-returns-in_ok-displacement-in-Skip-clause-value
 check_operation-returns-in_ok-displacement-in-Skip-clause-value t c =
-    let b = holds c.args.book.now in let w = c.args.book.now.whole in let k = c.args.number in
+    let b = view c.args.tables.now in let w = c.requires.whole in let k = c.args.number in
     let e = c.args.context.encoding in let s = scope_of c.args.context.unit_offsets in
     branch-counted e s b w k c.args.index c.requires.there c.requires.inside c.args.op c.requires.here c.in-Skip.target c.in-Skip.is (Ok c.in_ok-displacement-in-Skip.field-0)
-    (c.in_ok-displacement-in-Skip.ensures e s (filled-own e s b c.args.ends.now.places.now k c.requires.filled))
+    (c.in_ok-displacement-in-Skip.ensures e s (filled-own e s b c.args.ends.now k c.requires.filled))
 
 pub check_operation-returns-in_default : goal.check_operation-returns-in_default
 check_operation-returns-in_default t c =
-    let b = holds c.args.book.now in let w = c.args.book.now.whole in let k = c.args.number in let i = c.args.index in
+    let b = view c.args.tables.now in let w = c.requires.whole in let k = c.args.number in let i = c.args.index in
     let e = c.args.context.encoding in let s = scope_of c.args.context.unit_offsets in
     let hs = starts e s 0 (tree_in b k) in let x = c.args.op in
     let inside : InBook b (shape x) = subst (λ (y : Operation). InBook b (shape y)) (sym c.requires.here) (inside_book b w k c.requires.there i c.requires.inside) in

@@ -1,8 +1,8 @@
-use Rattle.std.proofs.Common.{◌≡◌, ℕ, ◌+◌, ◌<◌, List, length, drop, get_or, set, sym, ap, ◌∙◌, subst, arith, rules}
+use Rattle.std.proofs.Common.{◌≡◌, ℕ, ◌+◌, ◌<◌, List, length, drop, get_or, set, sym, refl, ap, ◌∙◌, subst, arith, rules}
 use borrow.Author.Count.{below_more}
-use Rattle.std.proofs.lemmas.List.{drop_all}
+use Rattle.std.proofs.lemmas.List.{drop_all, length-set}
 use Rattle.std.proofs.lemmas.Result.{err_from_is_err_and}
-use Rattle.book.specs.Holds.{holds}
+use Rattle.book_tables.specs.View.{view}
 use Rattle.book_state.specs.Operations.{shape}
 use Rattle.book_state.specs.State.{no_operation, op_at, expression_at, operations_of, weight_of, weight_by}
 use Rattle.op.specs.declared.operation.Operation.{Operation}
@@ -20,45 +20,47 @@ use Rattle.positions.proofs.+measure_expression_measure_operation.Goals as goal
 
 pub measure_expression-loop-i-init : goal.measure_expression-loop-i-init
 measure_expression-loop-i-init t c =
-    let b = holds c.args.book.now in let w = c.args.book.now.whole in let k = c.args.number in
+    let b = view c.args.tables.now in let w = c.requires.whole in let k = c.args.number in
     let e = c.args.context.encoding in let s = scope_of c.args.context.unit_offsets in
     let xs = c.operations-op-items.result.now in let are = c.operations-op-items.ensures.value in
-    let n = w.weighed k c.requires in
+    let n = w.weighed k c.requires.there in
     let m : weight_of b.expressions xs ≡ weight_of b.expressions (operations_of b k) = ap (weight_of b.expressions) are in (
       plus_start (rows_size e s b xs),
       omega arith,
-      sym (ap (starts e s 0) (items_rows b w k c.requires xs are)),
+      sym (ap (starts e s 0) (items_rows b w k c.requires.there xs are)),
       λ p h. h,
       λ j l. absurd (omega arith),
       λ j l. absurd (omega arith),
+      refl,
+      refl,
     )
 
 pub measure_expression-measure_operation-requires : goal.measure_expression-measure_operation-requires
 measure_expression-measure_operation-requires t c =
-    let b = holds c.args.book.now in let w = c.args.book.now.whole in
+    let b = view c.args.tables.now in let w = c.requires.whole in
     let xs = c.operations-op-items.result.now in let are = c.operations-op-items.ensures.value in
-    let d = item_depth b w c.args.number c.requires xs are c.loop-i.i c.loop-i-test.true in
-    (search rules, (item_inside b w c.args.number c.requires xs are c.loop-i.i c.loop-i-test.true))
+    let d = item_depth b w c.args.number c.requires.there xs are c.loop-i.i c.loop-i-test.true in
+    (search rules, (w, (c.requires.ordered, item_inside b w c.args.number c.requires.there xs are c.loop-i.i c.loop-i-test.true)))
 
 pub measure_expression-returns-in_err-size-clause-value : goal.measure_expression-returns-in_err-size-clause-value
 measure_expression-returns-in_err-size-clause-value t c =
-    let b = holds c.args.book.now in let w = c.args.book.now.whole in let k = c.args.number in
+    let b = view c.args.tables.now in let w = c.requires.whole in let k = c.args.number in
     let e = c.args.context.encoding in let s = scope_of c.args.context.unit_offsets in
     let xs = c.operations-op-items.result.now in let are = c.operations-op-items.ensures.value in let i = c.loop-i.i in
     let p = err_from_is_err_and c.from_residual.result c.from_residual.ensures.1 in
     rw (p.1, p.2)
-    (size_stop e s b (drop i xs) c.loop-i.size _ _ _ c.in_err-size.field-0.0 (item_then b w k c.requires xs are i c.loop-i-test.true) c.in_err-size.ensures.value c.loop-i.invariant.0
-    ∙ sym (ap (size_tree e s) (items_rows b w k c.requires xs are)))
+    (size_stop e s b (drop i xs) c.loop-i.size _ _ _ c.in_err-size.field-0.0 (item_then b w k c.requires.there xs are i c.loop-i-test.true) c.in_err-size.ensures.value c.loop-i.invariant.0
+    ∙ sym (ap (size_tree e s) (items_rows b w k c.requires.there xs are)))
 
 pub measure_expression-returns-in_err-size-clause-keeps : goal.measure_expression-returns-in_err-size-clause-keeps
 measure_expression-returns-in_err-size-clause-keeps t c =
-    keeps_then c.args.context.encoding (scope_of c.args.context.unit_offsets) (holds c.args.book.now) c.args.ends.now.places.now c.loop-i.ends.places.now
+    keeps_then c.args.context.encoding (scope_of c.args.context.unit_offsets) (view c.args.tables.now) c.args.ends.now.places.now c.loop-i.ends.places.now
     c.measure_operation.new.ends.places.now c.loop-i.invariant.3 c.in_err-size.ensures.keeps
 
 pub measure_expression-loop-i-preserved : goal.measure_expression-loop-i-preserved
 measure_expression-loop-i-preserved t c =
-    let b = holds c.args.book.now in let w = c.args.book.now.whole in let k = c.args.number in
-    let o = c.args.book.now.ordered in let there = c.requires in
+    let b = view c.args.tables.now in let w = c.requires.whole in let k = c.args.number in
+    let o = c.requires.ordered in let there = c.requires.there in
     let e = c.args.context.encoding in let s = scope_of c.args.context.unit_offsets in
     let xs = c.operations-op-items.result.now in let are = c.operations-op-items.ensures.value in let i = c.loop-i.i in
     let st = (expression_at b k).start in let n = c.in_ok-size.field-0 in let x = c.loop-i.size + n in
@@ -89,19 +91,21 @@ measure_expression-loop-i-preserved t c =
       below_more (λ j. EndsAt e s b T2 (st + j)) i (λ j h. k02 (st + j) (inv.4 j h)) here,
       below_more (λ j. FilledBy e s b T2 (op_at b (st + j))) i (λ j h v r. filled_keeps e s b T0 T2 v k02 (inv.5 j h v r))
           (λ v r. filled_keeps e s b T1 T2 v k12 (held v r)),
+      length-set T1 (st + i) x ∙ (c.in_ok-size.ensures.long ∙ inv.6),
+      c.in_ok-size.ensures.lender ∙ inv.7,
     )
 
 pub measure_expression-returns-clause-value : goal.measure_expression-returns-clause-value
 measure_expression-returns-clause-value t c =
-    let b = holds c.args.book.now in let w = c.args.book.now.whole in
+    let b = view c.args.tables.now in let w = c.requires.whole in
     let e = c.args.context.encoding in let s = scope_of c.args.context.unit_offsets in
     let xs = c.operations-op-items.result.now in let i = c.loop-i.i in
     size_all e s b (drop i xs) c.loop-i.size _ (drop_all i xs c.loop-i-test.false) c.loop-i.invariant.0
-    ∙ sym (ap (size_tree e s) (items_rows b w c.args.number c.requires xs c.operations-op-items.ensures.value))
+    ∙ sym (ap (size_tree e s) (items_rows b w c.args.number c.requires.there xs c.operations-op-items.ensures.value))
 
 pub measure_expression-returns-clause-filled : goal.measure_expression-returns-clause-filled
 measure_expression-returns-clause-filled t c =
-    let b = holds c.args.book.now in let w = c.args.book.now.whole in let k = c.args.number in
+    let b = view c.args.tables.now in let w = c.requires.whole in let k = c.args.number in
     let e = c.args.context.encoding in let s = scope_of c.args.context.unit_offsets in
     let n = c.operations-op-items.ensures.count in
     let done = c.loop-i-test.false in
@@ -109,6 +113,6 @@ measure_expression-returns-clause-filled t c =
 
 pub measure_operation-overflow_add-result-in-EntryValue : goal.measure_operation-overflow_add-result-in-EntryValue
 measure_operation-overflow_add-result-in-EntryValue t c =
-    let h = c.args.book.now.whole.counted.light c.in-EntryValue.number in
+    let h = c.requires.whole.counted.light c.in-EntryValue.number in
     let l = c.in_ok-length.ensures.light in
     record { fits = omega (arith, c.uleb128_size.ensures.small) }

@@ -2,7 +2,7 @@ use Rattle.std.proofs.Common.{◌≡◌, ℕ, ◌⊎◌, Ok, ap, ◌∙◌, subs
 use Rattle.op.specs.declared.operation.Operation.{Operation}
 use Rattle.op.specs.declared.operation.Operation.TheVariants as op
 use Rattle.book_state.specs.Operations.{shape}
-use Rattle.book.specs.Holds.{holds}
+use Rattle.book_tables.specs.View.{view}
 use Rattle.checking.proofs.Counting.{after_three}
 use Rattle.rules.specs.Encode.{encode_op}
 use Rattle.rules.specs.Operands.{after_branch, displaced}
@@ -14,7 +14,7 @@ use Rattle.emit.proofs.step.displacement_of.Goals as goal
 
 pub returns-in-Skip : goal.returns-in-Skip
 returns-in-Skip c = λ e s own.
-    let b = holds c.args.book.now in let w = c.args.book.now.whole in let at = c.args.at in let t = c.in-Skip.target in
+    let b = view c.args.tables.now in let w = c.requires.whole in let at = c.args.at in let t = c.in-Skip.target in
     let hs = starts_of e s b at.number in let leads = displaced hs (after_branch (next_start e s b at)) in
     let is = subst (λ (y : Operation). (y ≡ op.Skip t) ⊎ (y ≡ op.Branch t)) c.requires.here c.in-Skip.is in
     let three = after_three e s b w at.number at.next t c.requires.there c.requires.more is in

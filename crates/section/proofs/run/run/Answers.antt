@@ -1,6 +1,7 @@
-use Rattle.std.proofs.Common.{length, refl, ◌∙◌, arith}
+use Rattle.std.proofs.Common.{length, refl, ap, ◌∙◌, arith}
 use Rattle.std.proofs.lemmas.List.{drop-set-lt}
 use Rattle.claim.specs.Claim.{Runs}
+use Rattle.section.specs.Made.{call_of}
 use Rattle.section.proofs.Onward.{one_on, all_on}
 use Rattle.section.proofs.run.run.Goals as goal
 
@@ -10,13 +11,13 @@ loop-i-init g c = (refl, refl)
 
 pub loop-i-preserved : goal.loop-i-preserved
 loop-i-preserved g c = (
-  one_on c.args.calls.now c.loop-i.answers c.loop-i.i c.apply.result _ _ _ _ (omega arith) (omega arith) c.index-calls-i.is c.loop-i.invariant.0 c.apply.ensures,
+  one_on call_of c.args.calls.now c.loop-i.answers c.loop-i.i c.apply.result _ _ _ _ _ (omega arith) (omega arith) (ap call_of c.index-calls-i.is) c.loop-i.invariant.0 c.apply.ensures,
   drop-set-lt (length c.args.calls.now) c.loop-i.answers c.loop-i.i c.apply.result (omega arith) ∙ c.loop-i.invariant.1,
 )
 
 pub returns : goal.returns
 returns g c =
     record {
-      ran = all_on c.args.calls.now c.loop-i.answers c.loop-i.i _ _ (omega arith) c.loop-i.invariant.0;
+      ran = all_on call_of c.args.calls.now c.loop-i.answers c.loop-i.i _ _ (omega arith) c.loop-i.invariant.0;
       rest = c.loop-i.invariant.1;
     }

@@ -1,4 +1,4 @@
-use Rattle.std.proofs.Common.{◌≡◌, ◌+◌, ◌-◌, ◌^◌, neg_ℤ, pos, refl, sym, ap, ◌∙◌, arith, rules}
+use Rattle.std.proofs.Common.{◌≡◌, ◌+◌, ◌^◌, neg_ℤ, pos, sym, ap, ◌∙◌, arith, rules}
 use Rattle.std.proofs.lemmas.Int.{ints}
 use Rattle.std.specs.Option.{option_map}
 use Rattle.words.specs.Numbers.{number_of, signed_of, plain}
@@ -18,9 +18,3 @@ returns-in_err-plain_number-in-Some c =
     let is : signed_of c.args.word.now ≡ option_map (λ n. neg_ℤ (pos n)) (number_of (2 ^ 63) ds) = search rules in
     let none = below_none (2 ^ 63 + 1) (2 ^ 64) (plain ds) (omega arith) (sym c.plain_number.ensures ∙ c.in_err-plain_number-in-Some.was) in
     c.from_residual.ensures ∙ sym (is ∙ ap (option_map (λ n. neg_ℤ (pos n))) none)
-
-pub returns-in_ok-plain_number-in-None : goal.returns-in_ok-plain_number-in-None
-returns-in_ok-plain_number-in-None c =
-    let n = c.in_ok-plain_number-in-None.field-0 in
-    let is : signed_of c.args.word.now ≡ option_map pos (number_of (2 ^ 63 - 1) c.args.word.now) = search rules in
-    c.ok-in-None.ensures.value ∙ converted (2 ^ 63) n pos (plain c.args.word.now) _ c.try_from-in-None.result (omega arith) (sym c.in_ok-plain_number-in-None.was ∙ c.plain_number-in-None.ensures) refl (λ h. omega (arith, ints)) (λ h. omega (arith, ints)) c.try_from-in-None.ensures ∙ sym is

@@ -1,4 +1,4 @@
-use Rattle.std.proofs.Common.{◌≡◌, Err, refl, rules}
+use Rattle.std.proofs.Common.{◌≡◌, Err, take, refl, rules}
 use Rattle.unit.specs.Offsets.{unit_scope}
 use Rattle.book.specs.Holds.{holds}
 use Rattle.expression.specs.Sealed.{tree_at}
@@ -29,8 +29,8 @@ invariant_of-tables-2 g c =
     let w = c.write_expression in
     let wrote = rw c.unit.ensures at w.ensures.wrote in
     record {
-      widths = wide-written k t.pending.count last.encoding (unit_scope last) (rows_of t.pending) x (rows_of w.new.fixups) wrote.down t.widths;
-      order = rise-written k t.pending.count last.encoding (unit_scope last) (rows_of t.pending) x (rows_of w.new.fixups) wrote.down t.widths s.inside t.order;
+      widths = wide-written k t.pending.count last.encoding (unit_scope last) (rows_of t.pending) x (take w.new.count w.new.rows) wrote.down t.widths;
+      order = rise-written k t.pending.count last.encoding (unit_scope last) (rows_of t.pending) x (take w.new.count w.new.rows) wrote.down t.widths s.inside t.order;
     }
 
 pub invariant_of-self-2 : goal.invariant_of-self-2
@@ -42,7 +42,7 @@ invariant_of-self-2 g c =
     let wrote = rw c.unit.ensures at w.ensures.wrote in
     record {
       inside = inside-written (g.W.Writer.means s.sink) t.pending.count last.encoding (unit_scope last) (rows_of t.pending) (tree_at (holds c.args.book.now) c.args.number)
-          (rows_of w.new.fixups) wrote.down t.widths s.inside (g.W.Writer.means w.new.w) wrote.after;
+          (take w.new.count w.new.rows) wrote.down t.widths s.inside (g.W.Writer.means w.new.w) wrote.after;
     }
 
 pub returns-clause-step : goal.returns-clause-step
@@ -50,5 +50,5 @@ returns-clause-step g c =
     let t = c.args.self.now.tables in
     let w = c.write_expression in
     stepped
-    (write_follows (g.W.Writer.means c.args.self.now.sink) (g.W.Writer.means w.new.w) (rows_of t.pending) (rows_of w.new.fixups) t.pending.count (rows_long t.pending)
+    (write_follows (g.W.Writer.means c.args.self.now.sink) (g.W.Writer.means w.new.w) (rows_of t.pending) (take w.new.count w.new.rows) t.pending.count (rows_long t.pending)
     (tree_at (holds c.args.book.now) c.args.number) (units_of t.units) c.in_ok-last.last.now w.result w.result c.in_ok-last.ensures refl (rw c.unit.ensures at w.ensures.wrote))

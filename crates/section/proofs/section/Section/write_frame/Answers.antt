@@ -1,4 +1,4 @@
-use Rattle.std.proofs.Common.{rules}
+use Rattle.std.proofs.Common.{take, rules}
 use Rattle.book.specs.Holds.{holds}
 use Rattle.expression.specs.Sealed.{tree_at}
 use Rattle.emit.specs.Written.{written, Wrote}
@@ -18,26 +18,19 @@ invariant_of-self g c =
     let k = g.W.Writer.means s.sink in
     let x = tree_at (holds c.args.book.now) c.args.number in
     let w = c.write_expression in
-    let wrote : Wrote (written k t.pending.count c.args.encoding in_frame x) k (g.W.Writer.means w.new.w) (rows_of t.pending) (rows_of w.new.fixups) w.result = search rules in (
-      wide-written k t.pending.count c.args.encoding in_frame (rows_of t.pending) x (rows_of w.new.fixups) wrote.down t.widths,
-      (rise-written k t.pending.count c.args.encoding in_frame (rows_of t.pending) x (rows_of w.new.fixups) wrote.down t.widths s.inside t.order, tt),
+    let rows = take w.new.count w.new.rows in
+    let wrote : Wrote (written k t.pending.count c.args.encoding in_frame x) k (g.W.Writer.means w.new.w) (rows_of t.pending) rows w.result = search rules in (
+      (
+        wide-written k t.pending.count c.args.encoding in_frame (rows_of t.pending) x rows wrote.down t.widths,
+        (rise-written k t.pending.count c.args.encoding in_frame (rows_of t.pending) x rows wrote.down t.widths s.inside t.order, tt),
+      ),
+      (inside-written k t.pending.count c.args.encoding in_frame (rows_of t.pending) x rows wrote.down t.widths s.inside (g.W.Writer.means w.new.w) wrote.after, tt),
     )
-
-pub invariant_of-self-2 : goal.invariant_of-self-2
-invariant_of-self-2 g c =
-    let s = c.args.self.now in
-    let t = s.tables in
-    let w = c.write_expression in
-    let wrote = rw c.frame.ensures at w.ensures.wrote in
-    record {
-      inside = inside-written (g.W.Writer.means s.sink) t.pending.count c.args.encoding in_frame (rows_of t.pending) (tree_at (holds c.args.book.now) c.args.number)
-          (rows_of w.new.fixups) wrote.down t.widths s.inside (g.W.Writer.means w.new.w) wrote.after;
-    }
 
 pub returns-clause-step : goal.returns-clause-step
 returns-clause-step g c =
     let t = c.args.self.now.tables in
     let w = c.write_expression in
     stepped
-    (frame_follows (g.W.Writer.means c.args.self.now.sink) (g.W.Writer.means w.new.w) (rows_of t.pending) (rows_of w.new.fixups) t.pending.count (rows_long t.pending)
+    (frame_follows (g.W.Writer.means c.args.self.now.sink) (g.W.Writer.means w.new.w) (rows_of t.pending) (take w.new.count w.new.rows) t.pending.count (rows_long t.pending)
     (tree_at (holds c.args.book.now) c.args.number) (units_of t.units) c.args.encoding w.result t.pending.used (rw c.frame.ensures at w.ensures.wrote))

@@ -1,0 +1,12 @@
+use Rattle.std.proofs.Common.{◌≡◌, length, take, drop}
+use Rattle.book.specs.Holds.{holds}
+use Rattle.claim.specs.Claim.{Runs}
+use Rattle.section.specs.Held.{state_of}
+use Rattle.section.specs.Made.{call_in, all_made}
+use Rattle.section.proofs.run.run_in_book.Given as goal
+
+abbrev pub invariant-loop-i : goal.invariant-loop-i
+invariant-loop-i g l =
+    Runs (state_of g.W.Writer.means l.initial.section) (all_made (call_in (holds l.book)) (take l.i l.calls) (take l.i l.answers))
+    (state_of g.W.Writer.means l.section)
+    × (drop (length l.calls) l.answers ≡ drop (length l.calls) l.initial.answers)
