@@ -1,6 +1,7 @@
 -- Texts cut into lines and words.
-use Rattle.std.proofs.Common.{◌≡◌, ℕ, suc, ◌+◌, ◌-◌, ◌<◌, ◌≤◌, Bool, true, false, cond, not, List, [], ◌∷◌, length, get_or, take, drop, filter, Some, None, refl, ap, ◌∙◌, sym, ⊎_elim, add-one, one-add, arith, length-drop}
+use Rattle.std.proofs.Common.{◌≡◌, ℕ, suc, ◌+◌, ◌-◌, ◌<◌, ◌≤◌, Bool, true, false, cond, not, List, [], ◌∷◌, length, get_or, take, drop, filter, Some, None, Option, min, refl, ap, ◌∙◌, sym, ⊎_elim, add-one, one-add, arith, length-drop}
 use Rattle.std.specs.List.{position}
+use Rattle.std.specs.Option.{unwrap_or}
 use Rattle.std.proofs.lemmas.List.{take_rest, take_all, drop_all, drop_more}
 use Rattle.std.proofs.lemmas.Bool.{cases_lt, lt-ltb, cond-true, cond-false}
 use Rattle.std.proofs.lemmas.Option.{cond_some, none-some}
@@ -35,6 +36,18 @@ module _ (test : ℕ → Bool) where
   cut_nowhere cs e =
       let l = past_end cs e in
       record { before = sym (take_all _ cs l); after = sym (drop_all _ cs (omega arith)) }
+
+  -- a text that is cut behind what stands before a character, or at its end
+  pub cut_end : (cs : List ℕ) (o : Option ℕ) (end next : ℕ) → position test cs ≡ o → end ≡ unwrap_or o (length cs) → next ≡ min (end + 1) (length cs) → IsCut test cs (take end cs) (take (length cs - next) (drop next cs))
+  cut_end cs None end next p e m =
+      let k : next ≡ length cs = omega (arith, e, m) in
+      let l = cut_nowhere cs p in
+      record { before = rw e (take_all _ cs (omega arith)) ∙ l.before; after = rw k (take_all _ (drop (length cs) cs) (omega (arith, length-drop (length cs) cs)) ∙ drop_all _ cs (omega arith)) ∙ l.after }
+  cut_end cs (Some n) end next p e m =
+      let q = position-Some test cs n 0 p in
+      let k : next ≡ n + 1 = omega (arith, e, m, q.0) in
+      let l = cut_at cs n p in
+      rw (e, k) l
 
 -- a blank before a word is passed
 past_blank : (c : ℕ) (cs : List ℕ) (b : Bool) → blank c ≡ b → words_in (drop (reach printed cs) cs) ≡ words_in cs → words_in (drop (cond (not (not b)) (1 + reach printed cs) 0) (c ∷ cs)) ≡ filter filled (cond b ([] ∷ pieces blank cs) (glued c (pieces blank cs)))

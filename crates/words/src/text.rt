@@ -24,15 +24,11 @@ fn cut<F: Fn(u8) -> bool>(text: &[u8], ends: F) -> Split<'_>
     requires { F.IsAlwaysCallable ends }
     ensures { (test : ℕ → Bool) → ((c : ℕ) (r : Bool) → F.post ends c r → r ≡ test c) → IsCut test text.now result.first.now result.rest.now }
 {
-    match text.iter().position(|c| ends(*c)) {
-        Some(end) => Split {
-            first: &text[..end],
-            rest: &text[end + 1..],
-        },
-        None => Split {
-            first: text,
-            rest: &[],
-        },
+    let end = text.iter().position(|c| ends(*c)).unwrap_or(text.len());
+    let next = (end + 1).min(text.len());
+    Split {
+        first: &text[..end],
+        rest: &text[next..],
     }
 }
 
